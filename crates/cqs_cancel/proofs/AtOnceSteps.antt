@@ -3,17 +3,17 @@ use Rattle.std.proofs.Common.{◌≡◌, ℕ, [], ◌++◌, refl, ◌∙◌, sub
 use Rattle.std.proofs.lemmas.List.{append-nil}
 use Rattle.cqs_core.specs.QueueSteps.{row_of, leaves_at_once}
 use Rattle.cqs_words.specs.declared.cell.CellState.{CellState}
-use Rattle.cqs_views.specs.declared.client.ClientWords.{Ghosts}
-use Rattle.cqs_views.specs.declared.config.Place.{Place}
+use Rattle.cqs_rule_laws.specs.declared.client.ClientWords.{Ghosts}
+use Rattle.cqs_rule_laws.specs.declared.config.Place.{Place}
 use Rattle.cqs_rule.specs.declared.queue.Pass.{Pass}
-use Rattle.cqs_views.specs.declared.view.Facts.{Facts}
-use Rattle.cqs_views.specs.declared.view.View.{View}
-use Rattle.cqs_views.specs.Facts.{facts_after}
-use Rattle.cqs_views.specs.Object.{Object, Primitive}
+use Rattle.cqs_rule_laws.specs.declared.view.Facts.{Facts}
+use Rattle.cqs_rule_laws.specs.declared.view.View.{View}
+use Rattle.cqs_rule_laws.specs.Facts.{facts_after}
+use Rattle.cqs_rule_laws.specs.Object.{Object, Primitive}
 use Rattle.cqs_rule.specs.Passes.{pass_view}
-use Rattle.cqs_views.specs.Placed.{KnowsPlace}
-use Rattle.cqs_views.specs.Saw.{Saw}
-use Rattle.cqs_views.proofs.Calls.{called-by}
+use Rattle.cqs_rule_laws.specs.Placed.{KnowsPlace}
+use Rattle.cqs_rule_laws.specs.Saw.{Saw}
+use Rattle.cqs_rule_laws.proofs.Calls.{called-by}
 use Rattle.cqs_rule.proofs.Places.{knows-saw, knows-at}
 use Rattle.cqs_cell.specs.Transitions.{facts_since, MadeBy, HasMissed}
 use Rattle.cqs_cancel.specs.AtOnce.{WentAtOnce}

@@ -11,32 +11,33 @@ use Rattle.cqs_core.specs.QueueStages.{MayFind}
 use Rattle.cqs_core.specs.QueueSteps.{QueueStep, row_of, CellRow, StepRow, at_counter, at_cell, payload_told, starts_leaving, settles, settles_owing, refuses, refuses_value, looks, late}
 use Rattle.cqs_words.specs.declared.cell.CellState.{CellState}
 use Rattle.cqs_words.specs.declared.cell.CellWord.{CellWord}
-use Rattle.cqs_views.specs.declared.client.ClientWords.{Ghosts}
-use Rattle.cqs_views.specs.declared.config.Place.{Place}
+use Rattle.cqs_rule_laws.specs.declared.client.ClientWords.{Ghosts}
+use Rattle.cqs_rule_laws.specs.declared.config.Place.{Place}
 use Rattle.cqs_rule.specs.declared.queue.Pass.{Pass}
-use Rattle.cqs_views.specs.declared.view.Facts.{Facts}
-use Rattle.cqs_views.specs.declared.view.Glimpse.{Glimpse}
-use Rattle.cqs_views.specs.declared.view.Has.{Has}
-use Rattle.cqs_views.specs.declared.view.Opening.{Opening}
-use Rattle.cqs_views.specs.declared.view.Sighting.TheVariants.{Cell}
-use Rattle.cqs_views.specs.declared.view.View.{View}
+use Rattle.cqs_rule_laws.specs.declared.view.Facts.{Facts}
+use Rattle.cqs_rule_laws.specs.declared.view.Glimpse.{Glimpse}
+use Rattle.cqs_rule_laws.specs.declared.view.Has.{Has}
+use Rattle.cqs_rule_laws.specs.declared.view.Opening.{Opening}
+use Rattle.cqs_rule_laws.specs.declared.view.Sighting.TheVariants.{Cell}
+use Rattle.cqs_rule_laws.specs.declared.view.View.{View}
 use Rattle.cqs_rule.specs.Callbacks.{Asking, by_step, as_it_begins, by_itself, IsAsked, MayAsk, Answered, AnsweredBy, HasAnswered, EndedRefused}
-use Rattle.cqs_views.specs.Called.{Called}
-use Rattle.cqs_views.specs.Events.{Event, Moment, moment, in_any_case, facts_moved, HasWord}
-use Rattle.cqs_views.specs.Exchanges.{FoundCell, SinceLast, HasCell}
-use Rattle.cqs_views.specs.Facts.{facts_worked, facts_missed, facts_after}
-use Rattle.cqs_views.specs.Hidden.{Hidden}
-use Rattle.cqs_views.specs.Layout.{client_place}
-use Rattle.cqs_views.specs.Lists.{IsPrefix}
-use Rattle.cqs_views.specs.Loads.{cancels, event_of, look_entries, facts_looked}
-use Rattle.cqs_views.specs.Manner.{Manner, Asks}
-use Rattle.cqs_views.specs.Object.{Object, Primitive}
+use Rattle.cqs_rule_laws.specs.Called.{Called}
+use Rattle.cqs_rule_laws.specs.Events.{Event, Moment, moment, in_any_case, facts_moved, HasWord}
+use Rattle.cqs_rule_laws.specs.Exchanges.{FoundCell, SinceLast, HasCell}
+use Rattle.cqs_rule_laws.specs.Facts.{facts_worked, facts_missed, facts_after}
+use Rattle.cqs_rule_laws.specs.Hidden.{Hidden}
+use Rattle.cqs_rule_laws.specs.Layout.{client_place}
+use Rattle.cqs_rule_laws.specs.Lists.{IsPrefix}
+use Rattle.cqs_rule_laws.proofs.Lists.{prefix-then}
+use Rattle.cqs_rule_laws.specs.Loads.{cancels, event_of, look_entries, facts_looked}
+use Rattle.cqs_rule_laws.specs.Manner.{Manner, Asks}
+use Rattle.cqs_rule_laws.specs.Object.{Object, Primitive}
 use Rattle.cqs_rule.specs.Owed.{OwesWith}
 use Rattle.cqs_rule.specs.Passes.{pass_view}
-use Rattle.cqs_views.specs.Placed.{KnowsPlace}
-use Rattle.cqs_views.specs.Ruled.{word_of}
-use Rattle.cqs_views.specs.Saw.{Saw, WasShown, WasFound, WasSo}
-use Rattle.cqs_views.proofs.Calls.{called-by, called-then, called-and, saw-then}
+use Rattle.cqs_rule_laws.specs.Placed.{KnowsPlace}
+use Rattle.cqs_rule_laws.specs.Ruled.{word_of}
+use Rattle.cqs_rule_laws.specs.Saw.{Saw, WasShown, WasFound, WasSo}
+use Rattle.cqs_rule_laws.proofs.Calls.{called-by, called-then, called-and, saw-then}
 use Rattle.cqs_rule.proofs.Places.{knows-saw, knows-at}
 use Rattle.cqs_cell.specs.Looks.{LooksAt}
 use Rattle.cqs_cell.specs.Transitions.{facts_since, Made, MadeBy, HasMade, Missed, MissedBy, HasMissed, HasSettled}
@@ -76,9 +77,6 @@ none-after state.Cancelling is more = is
 none-after state.Delegated is more = is
 none-after state.Cancelled is more = is
 none-after state.Refused is more = is
-
-prefix-then : {A : Type 0} (a b c : List A) → IsPrefix a b → IsPrefix b c → IsPrefix a c
-prefix-then a b c p q = (p.0 ++ q.0, q.1 ∙ (ap (λ l. l ++ q.0) p.1 ∙ append_assoc a p.0 q.0))
 
 pub no-more : {A : Type 0} (l : List A) → length l ≤ 0 → l ≡ []
 no-more [] few = refl

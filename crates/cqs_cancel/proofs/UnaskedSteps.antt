@@ -4,21 +4,21 @@ use Rattle.std.proofs.Common.{◌≡◌, ℕ, ◌≤◌, true, List, [], ◌++�
 use Rattle.std.proofs.lemmas.List.{append-nil}
 use Rattle.cqs_core.specs.QueueSteps.{QueueStep, row_of, CellRow, StepRow, at_counter, at_cell, payload_told, leaves_line, settles, settles_owing}
 use Rattle.cqs_words.specs.declared.cell.CellState.{CellState}
-use Rattle.cqs_views.specs.declared.client.ClientWords.{Ghosts}
-use Rattle.cqs_views.specs.declared.config.Place.{Place}
+use Rattle.cqs_rule_laws.specs.declared.client.ClientWords.{Ghosts}
+use Rattle.cqs_rule_laws.specs.declared.config.Place.{Place}
 use Rattle.cqs_rule.specs.declared.queue.Pass.{Pass}
-use Rattle.cqs_views.specs.declared.view.Facts.{Facts}
-use Rattle.cqs_views.specs.declared.view.Glimpse.{Glimpse}
-use Rattle.cqs_views.specs.declared.view.Has.{Has}
-use Rattle.cqs_views.specs.declared.view.View.{View}
-use Rattle.cqs_views.specs.Exchanges.{HasCell}
-use Rattle.cqs_views.specs.Facts.{facts_worked}
-use Rattle.cqs_views.specs.Object.{Object, Primitive}
+use Rattle.cqs_rule_laws.specs.declared.view.Facts.{Facts}
+use Rattle.cqs_rule_laws.specs.declared.view.Glimpse.{Glimpse}
+use Rattle.cqs_rule_laws.specs.declared.view.Has.{Has}
+use Rattle.cqs_rule_laws.specs.declared.view.View.{View}
+use Rattle.cqs_rule_laws.specs.Exchanges.{HasCell}
+use Rattle.cqs_rule_laws.specs.Facts.{facts_worked}
+use Rattle.cqs_rule_laws.specs.Object.{Object, Primitive}
 use Rattle.cqs_rule.specs.Owed.{OwesWith}
 use Rattle.cqs_rule.specs.Passes.{pass_view}
-use Rattle.cqs_views.specs.Placed.{KnowsPlace}
-use Rattle.cqs_views.specs.Saw.{Saw, WasFound}
-use Rattle.cqs_views.proofs.Calls.{called-by, called-then}
+use Rattle.cqs_rule_laws.specs.Placed.{KnowsPlace}
+use Rattle.cqs_rule_laws.specs.Saw.{Saw, WasFound}
+use Rattle.cqs_rule_laws.proofs.Calls.{called-by, called-then}
 use Rattle.cqs_rule.proofs.Places.{knows-saw, knows-at}
 use Rattle.cqs_cell.specs.Transitions.{facts_since, Made, MadeBy, HasMade, HasMissed, HasSettled}
 use Rattle.cqs_cancel.specs.declared.cancelling.Left.{Left}

@@ -1,15 +1,15 @@
 -- What a cancel answers that leaves at once: exactly what its owner found in the cell of the wait.
 use Rattle.std.specs.Prelude.{◌≡◌, ℕ}
 use Rattle.cqs_core.specs.QueueSteps.{row_of, leaves_at_once}
-use Rattle.cqs_views.specs.declared.client.ClientWords.{Ghosts}
+use Rattle.cqs_rule_laws.specs.declared.client.ClientWords.{Ghosts}
 use Rattle.cqs_rule.specs.declared.queue.Pass.{Pass}
-use Rattle.cqs_views.specs.declared.view.View.{View}
-use Rattle.cqs_views.specs.Called.{Called}
-use Rattle.cqs_views.specs.Exchanges.{FoundCell, HasCell}
-use Rattle.cqs_views.specs.Facts.{facts_after}
-use Rattle.cqs_views.specs.Object.{Object, Primitive}
+use Rattle.cqs_rule_laws.specs.declared.view.View.{View}
+use Rattle.cqs_rule_laws.specs.Called.{Called}
+use Rattle.cqs_rule_laws.specs.Exchanges.{FoundCell, HasCell}
+use Rattle.cqs_rule_laws.specs.Facts.{facts_after}
+use Rattle.cqs_rule_laws.specs.Object.{Object, Primitive}
 use Rattle.cqs_rule.specs.Passes.{pass_view}
-use Rattle.cqs_views.specs.Saw.{WasFound}
+use Rattle.cqs_rule_laws.specs.Saw.{WasFound}
 use Rattle.cqs_cancel.specs.declared.at_once.AtOnce.{AtOnce}
 use Rattle.cqs_cancel.specs.declared.at_once.AtOnce.TheVariants.{Gone, Late}
 use Rattle.cqs_cancel.specs.Cancels.{waiting_glimpse, CameLate}

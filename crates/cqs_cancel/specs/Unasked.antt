@@ -2,19 +2,19 @@
 -- wait.
 use Rattle.std.specs.Prelude.{◌≡◌, ℕ, ◌≤◌, List, ◌++◌, length, Option, Some, None}
 use Rattle.cqs_core.specs.QueueSteps.{QueueStep, row_of, CellRow, StepRow, at_counter, at_cell, payload_told, leaves_line, settles, settles_owing}
-use Rattle.cqs_views.specs.declared.client.ClientWords.{Ghosts}
+use Rattle.cqs_rule_laws.specs.declared.client.ClientWords.{Ghosts}
 use Rattle.cqs_rule.specs.declared.queue.Pass.{Pass}
-use Rattle.cqs_views.specs.declared.view.Facts.{Facts}
-use Rattle.cqs_views.specs.declared.view.Sighting.{Sighting}
-use Rattle.cqs_views.specs.declared.view.View.{View}
-use Rattle.cqs_views.specs.Called.{Called}
-use Rattle.cqs_views.specs.Exchanges.{FoundCell, HasCell}
-use Rattle.cqs_views.specs.Facts.{facts_after, facts_worked}
-use Rattle.cqs_views.specs.Hidden.{Gains}
-use Rattle.cqs_views.specs.Object.{Object, Primitive}
+use Rattle.cqs_rule_laws.specs.declared.view.Facts.{Facts}
+use Rattle.cqs_rule_laws.specs.declared.view.Sighting.{Sighting}
+use Rattle.cqs_rule_laws.specs.declared.view.View.{View}
+use Rattle.cqs_rule_laws.specs.Called.{Called}
+use Rattle.cqs_rule_laws.specs.Exchanges.{FoundCell, HasCell}
+use Rattle.cqs_rule_laws.specs.Facts.{facts_after, facts_worked}
+use Rattle.cqs_rule_laws.specs.Hidden.{Gains}
+use Rattle.cqs_rule_laws.specs.Object.{Object, Primitive}
 use Rattle.cqs_rule.specs.Owed.{OwesWith}
 use Rattle.cqs_rule.specs.Passes.{pass_view}
-use Rattle.cqs_views.specs.Saw.{WasFound, WasSo}
+use Rattle.cqs_rule_laws.specs.Saw.{WasFound, WasSo}
 use Rattle.cqs_cancel.specs.declared.cancelling.Left.{Left}
 use Rattle.cqs_cancel.specs.declared.cancelling.Left.TheVariants.{Gone, GoneOwing, Late}
 use Rattle.cqs_cancel.specs.Cancels.{facts_tried, waiting_glimpse, CameLate}

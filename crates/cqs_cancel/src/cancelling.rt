@@ -3,10 +3,10 @@
 ghost use Rattle.std.specs.Prelude.{◌≡◌, true};
 ghost use Rattle.cqs_core.specs.declared.doings.Doing.TheVariants as doing;
 ghost use Rattle.cqs_rule.specs.Callbacks.{IsAsked};
-ghost use Rattle.cqs_views.specs.Lists.{Has};
-ghost use Rattle.cqs_views.specs.Manner.{Asks};
+ghost use Rattle.cqs_rule_laws.specs.Lists.{Has};
+ghost use Rattle.cqs_rule_laws.specs.Manner.{Asks};
 ghost use Rattle.cqs_rule.specs.Passes.{pass_view, client_of, IsOf};
-ghost use Rattle.cqs_views.specs.Placed.{KnowsPlace};
+ghost use Rattle.cqs_rule_laws.specs.Placed.{KnowsPlace};
 ghost use Rattle.cqs_rule.specs.Waits.{place_of, HasWait};
 ghost use Rattle.cqs_cancel.specs.Alone.{OwesNone, IsAhead};
 ghost use Rattle.cqs_cancel.specs.Cancels.{HasCancelled, HasLeft};

@@ -7,11 +7,11 @@ use Rattle.cqs_core.specs.QueueSteps.{QueueStep, row_of, CellRow, StepRow, at_co
 use Rattle.cqs_words.specs.declared.cell.CellState.{CellState}
 use Rattle.cqs_words.specs.Cell.{cell_word, index_in, state_code}
 use Rattle.cqs_words.proofs.CellLaws.{state_code-below, index_in-cell_word}
-use Rattle.cqs_views.specs.declared.config.Place.{Place}
-use Rattle.cqs_views.specs.declared.view.View.{View}
-use Rattle.cqs_views.specs.Exchanges.{Exchanges, MayExchange, IsCrossing}
-use Rattle.cqs_views.specs.Placed.{KnowsPlace}
-use Rattle.cqs_views.specs.Ruled.{shown_state}
+use Rattle.cqs_rule_laws.specs.declared.config.Place.{Place}
+use Rattle.cqs_rule_laws.specs.declared.view.View.{View}
+use Rattle.cqs_rule_laws.specs.Exchanges.{Exchanges, MayExchange, IsCrossing}
+use Rattle.cqs_rule_laws.specs.Placed.{KnowsPlace}
+use Rattle.cqs_rule_laws.specs.Ruled.{shown_state}
 use Rattle.cqs_cell.specs.Crossings.{CrossesRow, CrossesBy, Crosses, WorksBy, OwnsBy, FindsBy, FitsBy, MakesBy, LeavesBy}
 
 -- the state whose shown one is this

@@ -9,14 +9,14 @@ use Rattle.cqs_words.specs.declared.cell.CellState.TheVariants as shown
 use Rattle.std.proofs.lemmas.Option.{same_Some}
 use Rattle.cqs_words.specs.declared.cell.CellWord.{CellWord}
 use Rattle.cqs_words.specs.Cell.{payload_in, unpacked_cell}
-use Rattle.cqs_views.specs.declared.client.ClientWords.{Ghosts}
-use Rattle.cqs_views.specs.declared.config.Place.{Place}
+use Rattle.cqs_rule_laws.specs.declared.client.ClientWords.{Ghosts}
+use Rattle.cqs_rule_laws.specs.declared.config.Place.{Place}
 use Rattle.cqs_rule.specs.declared.queue.Pass.{Pass}
-use Rattle.cqs_views.specs.declared.view.View.{View}
-use Rattle.cqs_views.specs.Loads.{LoadStep, counts, watches, polls, cancels, meets, misses, MayLook, MayLoad, Looked, Loaded}
-use Rattle.cqs_views.specs.Object.{Object, Primitive}
-use Rattle.cqs_views.specs.Placed.{KnowsPlace}
-use Rattle.cqs_views.specs.Ruled.{shown_state}
+use Rattle.cqs_rule_laws.specs.declared.view.View.{View}
+use Rattle.cqs_rule_laws.specs.Loads.{LoadStep, counts, watches, polls, cancels, meets, misses, MayLook, MayLoad, Looked, Loaded}
+use Rattle.cqs_rule_laws.specs.Object.{Object, Primitive}
+use Rattle.cqs_rule_laws.specs.Placed.{KnowsPlace}
+use Rattle.cqs_rule_laws.specs.Ruled.{shown_state}
 use Rattle.cqs_cell.specs.Looks.{LooksAt, HasLookedAtWord, HasPolled, IsGrant}
 use Rattle.cqs_cell.specs.Transitions.{IsCellWord}
 use Rattle.cqs_cell.proofs.Made.{unpacks}

@@ -12,22 +12,22 @@ use Rattle.cqs_words.specs.declared.cell.CellState.{CellState}
 use Rattle.cqs_words.specs.declared.cell.CellWord.{CellWord}
 use Rattle.cqs_words.specs.Cell.{unpacked_cell, index_in}
 use Rattle.cqs_words.proofs.CellLaws.{unpacked_cell-packed_cell}
-use Rattle.cqs_views.specs.declared.config.Place.{Place}
-use Rattle.cqs_views.specs.declared.view.Facts.{Facts}
-use Rattle.cqs_views.specs.declared.view.Glimpse.{Glimpse}
-use Rattle.cqs_views.specs.declared.view.Sighting.TheVariants.{Cell}
-use Rattle.cqs_views.specs.declared.view.View.{View}
-use Rattle.cqs_views.specs.Drawn.{draws_in, TellsCome}
-use Rattle.cqs_views.specs.Exchanges.{FoundCell, SinceLast, HasCell, Crossed, CrossedBy}
-use Rattle.cqs_views.specs.Facts.{facts_worked, facts_missed}
-use Rattle.cqs_views.specs.Manner.{Leaving, asks, passes_on, at_once, Asks, IsSmart}
-use Rattle.cqs_views.specs.Placed.{KnowsPlace}
-use Rattle.cqs_views.specs.Object.{Object, Primitive}
-use Rattle.cqs_views.specs.Ruled.{shown_state, word_of}
-use Rattle.cqs_views.specs.Saw.{Saw, WasFound}
-use Rattle.cqs_views.proofs.Calls.{saw-then}
-use Rattle.cqs_views.proofs.CellSteps.{word_of-injective}
-use Rattle.cqs_views.proofs.Drawing.{draws-cell, knows-still}
+use Rattle.cqs_rule_laws.specs.declared.config.Place.{Place}
+use Rattle.cqs_rule_laws.specs.declared.view.Facts.{Facts}
+use Rattle.cqs_rule_laws.specs.declared.view.Glimpse.{Glimpse}
+use Rattle.cqs_rule_laws.specs.declared.view.Sighting.TheVariants.{Cell}
+use Rattle.cqs_rule_laws.specs.declared.view.View.{View}
+use Rattle.cqs_rule_laws.specs.Drawn.{draws_in, TellsCome}
+use Rattle.cqs_rule_laws.specs.Exchanges.{FoundCell, SinceLast, HasCell, Crossed, CrossedBy}
+use Rattle.cqs_rule_laws.specs.Facts.{facts_worked, facts_missed}
+use Rattle.cqs_rule_laws.specs.Manner.{Leaving, asks, passes_on, at_once, Asks, IsSmart}
+use Rattle.cqs_rule_laws.specs.Placed.{KnowsPlace}
+use Rattle.cqs_rule_laws.specs.Object.{Object, Primitive}
+use Rattle.cqs_rule_laws.specs.Ruled.{shown_state, word_of}
+use Rattle.cqs_rule_laws.specs.Saw.{Saw, WasFound}
+use Rattle.cqs_rule_laws.proofs.Calls.{saw-then}
+use Rattle.cqs_rule_laws.proofs.CellSteps.{word_of-injective}
+use Rattle.cqs_rule_laws.proofs.Drawing.{draws-cell, knows-still}
 use Rattle.cqs_rule.proofs.Places.{knows-saw}
 use Rattle.cqs_cell.specs.Crossings.{CrossesRow, CrossesBy, Crosses, IsSureBy, IsLastBy}
 use Rattle.cqs_cell.specs.Transitions.{facts_since, Made, Missed, MissedCell, MissedCellBy, MadeBy}

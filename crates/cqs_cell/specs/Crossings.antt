@@ -7,13 +7,13 @@ use Rattle.cqs_core.specs.QueueCells.{rank, IsBare}
 use Rattle.cqs_core.specs.QueueStages.{doing_at, MayFind}
 use Rattle.cqs_core.specs.QueueSteps.{QueueStep, row_of, CellRow, StepRow, at_counter, at_cell, payload_told}
 use Rattle.cqs_words.specs.declared.cell.CellState.{CellState}
-use Rattle.cqs_views.specs.declared.config.Place.{Place}
-use Rattle.cqs_views.specs.declared.view.Facts.{Facts}
-use Rattle.cqs_views.specs.declared.view.Glimpse.{Glimpse}
-use Rattle.cqs_views.specs.declared.view.View.{View}
-use Rattle.cqs_views.specs.Exchanges.{IsOwnWait, payload_left}
-use Rattle.cqs_views.specs.Placed.{KnowsPlace}
-use Rattle.cqs_views.specs.Ruled.{shown_state, word_of}
+use Rattle.cqs_rule_laws.specs.declared.config.Place.{Place}
+use Rattle.cqs_rule_laws.specs.declared.view.Facts.{Facts}
+use Rattle.cqs_rule_laws.specs.declared.view.Glimpse.{Glimpse}
+use Rattle.cqs_rule_laws.specs.declared.view.View.{View}
+use Rattle.cqs_rule_laws.specs.Exchanges.{IsOwnWait, payload_left}
+use Rattle.cqs_rule_laws.specs.Placed.{KnowsPlace}
+use Rattle.cqs_rule_laws.specs.Ruled.{shown_state, word_of}
 
 module _ {E S : Type 0} where
   -- The pass may make the exchange of this row at the place, from the word of a cell with this

@@ -3,13 +3,13 @@ use Rattle.std.specs.Prelude.{◌≡◌, ℕ, Option, Some, None}
 use Rattle.cqs_words.specs.declared.cell.CellState.TheVariants as shown
 use Rattle.cqs_words.specs.declared.cell.CellWord.{CellWord}
 use Rattle.cqs_words.specs.Cell.{unpacked_cell}
-use Rattle.cqs_views.specs.declared.client.ClientWords.{Ghosts}
+use Rattle.cqs_rule_laws.specs.declared.client.ClientWords.{Ghosts}
 use Rattle.cqs_rule.specs.declared.queue.Pass.{Pass}
-use Rattle.cqs_views.specs.declared.view.View.{View}
-use Rattle.cqs_views.specs.Loads.{LoadStep, Looked, polls}
-use Rattle.cqs_views.specs.Object.{Object, Primitive}
+use Rattle.cqs_rule_laws.specs.declared.view.View.{View}
+use Rattle.cqs_rule_laws.specs.Loads.{LoadStep, Looked, polls}
+use Rattle.cqs_rule_laws.specs.Object.{Object, Primitive}
 use Rattle.cqs_rule.specs.Passes.{pass_view}
-use Rattle.cqs_views.specs.Ruled.{shown_state}
+use Rattle.cqs_rule_laws.specs.Ruled.{shown_state}
 
 module _ {C E S : Type 0} (object : Object E) (primitive : C → Primitive E S) where
   -- the cell of the number k was loaded so, and this state and payload were found there

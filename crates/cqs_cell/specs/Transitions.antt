@@ -6,19 +6,19 @@ use Rattle.cqs_core.specs.QueueSteps.{QueueStep, row_of, CellRow, StepRow, at_co
 use Rattle.cqs_words.specs.declared.cell.CellState.{CellState}
 use Rattle.cqs_words.specs.declared.cell.CellWord.{CellWord}
 use Rattle.cqs_words.specs.Cell.{unpacked_cell}
-use Rattle.cqs_views.specs.declared.client.ClientWords.{Ghosts}
+use Rattle.cqs_rule_laws.specs.declared.client.ClientWords.{Ghosts}
 use Rattle.cqs_rule.specs.declared.queue.Pass.{Pass}
-use Rattle.cqs_views.specs.declared.view.Facts.{Facts}
-use Rattle.cqs_views.specs.declared.view.Glimpse.{Glimpse}
-use Rattle.cqs_views.specs.declared.view.Sighting.{Sighting}
-use Rattle.cqs_views.specs.declared.view.View.{View}
-use Rattle.cqs_views.specs.Drawn.{TellsCome}
-use Rattle.cqs_views.specs.Exchanges.{FoundCell, SinceLast, HasCell}
-use Rattle.cqs_views.specs.Facts.{facts_worked, facts_missed}
-use Rattle.cqs_views.specs.Object.{Object, Primitive}
+use Rattle.cqs_rule_laws.specs.declared.view.Facts.{Facts}
+use Rattle.cqs_rule_laws.specs.declared.view.Glimpse.{Glimpse}
+use Rattle.cqs_rule_laws.specs.declared.view.Sighting.{Sighting}
+use Rattle.cqs_rule_laws.specs.declared.view.View.{View}
+use Rattle.cqs_rule_laws.specs.Drawn.{TellsCome}
+use Rattle.cqs_rule_laws.specs.Exchanges.{FoundCell, SinceLast, HasCell}
+use Rattle.cqs_rule_laws.specs.Facts.{facts_worked, facts_missed}
+use Rattle.cqs_rule_laws.specs.Object.{Object, Primitive}
 use Rattle.cqs_rule.specs.Passes.{pass_view}
-use Rattle.cqs_views.specs.Ruled.{shown_state}
-use Rattle.cqs_views.specs.Saw.{Saw, WasFound}
+use Rattle.cqs_rule_laws.specs.Ruled.{shown_state}
+use Rattle.cqs_rule_laws.specs.Saw.{Saw, WasFound}
 
 -- a pass at these facts, with these found besides, and another glimpse
 abbrev pub facts_since : List Sighting → Option Glimpse → Facts → Facts

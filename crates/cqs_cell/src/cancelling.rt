@@ -3,10 +3,10 @@
 ghost use Rattle.std.specs.Prelude.{◌≡◌, IfOk, IfErr};
 ghost use Rattle.cqs_core.specs.declared.doings.Doing.TheVariants as doing;
 ghost use Rattle.cqs_core.specs.QueueSteps.{starts_leaving};
-ghost use Rattle.cqs_views.specs.Lists.{Has};
-ghost use Rattle.cqs_views.specs.Manner.{Asks};
+ghost use Rattle.cqs_rule_laws.specs.Lists.{Has};
+ghost use Rattle.cqs_rule_laws.specs.Manner.{Asks};
 ghost use Rattle.cqs_rule.specs.Passes.{pass_view, client_of, IsOf};
-ghost use Rattle.cqs_views.specs.Placed.{KnowsPlace};
+ghost use Rattle.cqs_rule_laws.specs.Placed.{KnowsPlace};
 ghost use Rattle.cqs_cell.specs.Transitions.{HasMade, HasMissed, HasSettled};
 
 use crate::cross::cross;

@@ -13,9 +13,9 @@ ghost use Rattle.cqs_cell.specs.Crossings.{
   IsSure,
 };
 ghost use Rattle.cqs_cell.specs.Transitions.{HasMade, HasMissedCell, HasMissedWord, IsCellWord};
-ghost use Rattle.cqs_views.specs.Manner.{Suits};
+ghost use Rattle.cqs_rule_laws.specs.Manner.{Suits};
 ghost use Rattle.cqs_rule.specs.Passes.{pass_view, client_of, IsOf};
-ghost use Rattle.cqs_views.specs.Placed.{KnowsPlace};
+ghost use Rattle.cqs_rule_laws.specs.Placed.{KnowsPlace};
 
 use cqs_rule::{ClientWords, Kind, Pass, Place, Queue};
 use cqs_words::{CellState, CellWord};

@@ -3,9 +3,9 @@
 ghost use Rattle.std.specs.Prelude.{◌≡◌};
 ghost use Rattle.cqs_cell.specs.Looks.{HasLookedAt, HasLookedAtWord, HasPolled};
 ghost use Rattle.cqs_cell.specs.Transitions.{IsCellWord};
-ghost use Rattle.cqs_views.specs.Loads.{LoadSuits, MayLook, polls};
+ghost use Rattle.cqs_rule_laws.specs.Loads.{LoadSuits, MayLook, polls};
 ghost use Rattle.cqs_rule.specs.Passes.{pass_view, client_of, IsOf};
-ghost use Rattle.cqs_views.specs.Placed.{KnowsPlace};
+ghost use Rattle.cqs_rule_laws.specs.Placed.{KnowsPlace};
 
 use cqs_rule::{ClientWords, Load, Pass, Place, Polls, Queue};
 use cqs_words::{CellState, CellWord};

@@ -3,9 +3,9 @@
 
 ghost use Rattle.std.specs.Prelude.{◌≡◌, true, false};
 ghost use Rattle.cqs_core.specs.declared.doings.Doing.TheVariants as doing;
-ghost use Rattle.cqs_views.specs.Manner.{Asks, IsSmart};
+ghost use Rattle.cqs_rule_laws.specs.Manner.{Asks, IsSmart};
 ghost use Rattle.cqs_rule.specs.Passes.{pass_view, client_of, IsOf};
-ghost use Rattle.cqs_views.specs.Placed.{KnowsPlace};
+ghost use Rattle.cqs_rule_laws.specs.Placed.{KnowsPlace};
 ghost use Rattle.cqs_cell.specs.Transitions.{HasSettled};
 
 use crate::cross::{cross, cross_surely};

@@ -4,7 +4,7 @@ ghost use Rattle.std.specs.Prelude.{◌≡◌, ◌≢◌, IfOk, IfErr};
 ghost use Rattle.cqs_core.specs.declared.doings.Doing.TheVariants as doing;
 ghost use Rattle.cqs_core.specs.QueueSteps.{takes};
 ghost use Rattle.cqs_rule.specs.Passes.{pass_view, IsOf};
-ghost use Rattle.cqs_views.specs.Placed.{KnowsPlace};
+ghost use Rattle.cqs_rule_laws.specs.Placed.{KnowsPlace};
 ghost use Rattle.cqs_cell.specs.Transitions.{HasMadeAfter, HasMissed};
 ghost use Rattle.cqs_words.specs.declared.cell.CellState.TheVariants as shown;
 

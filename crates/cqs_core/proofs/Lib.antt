@@ -69,5 +69,6 @@ pub mod CoreFacts
 pub mod OpenedCore
 pub mod CallsKeep
 pub mod Quiet
+pub mod IdleLines
 pub mod SoleLine
 pub mod WaitCells

@@ -1,5 +1,23 @@
-//! The fair semaphore as a plain object, the steps of the cancellable queue as a table of
-//! definitions, and their laws.
+//! The model of the queue, on plain data: a fair semaphore as its users know it, the queue that
+//! works under it, and the laws that tie the two together. Nothing runs here; the model that runs
+//! is `cqs_core_run`.
+//!
+//! ```text
+//!  the plain semaphore             the core, from which each part is read off
+//!    free permits, way      <---     the state word; the resumptions under way
+//!    door                   <---     the passes that must wait and have no number yet
+//!    line, by number        <---     the cells that are Empty, Waiter or Value, or being left
+//!    served                 <---     the cells that are Resumed, until their permit is looked at
+//!    history of entries     <---     events: one atomic step of one pass each, with its entry
+//! ```
+//!
+//! The definitions come in two parts, and the names of their files show which. Those that begin
+//! with `Queue` know nothing of permits: cells, two counters, what each pass is doing, and every
+//! step that any primitive may make of them, as one table. Those that begin with `Semaphore` have
+//! the plain object, the table of events, and what it means that a core shows the object. Other
+//! primitives stand on the first part, with objects of their own.
+//!
+//! A law is a function that does nothing: it is proved where the contract of a function says it.
 #![tactic(auto)]
 
 mod calls;

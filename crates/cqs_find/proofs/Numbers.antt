@@ -1,9 +1,9 @@
 -- The numbers of a pass are those of cells.
 use Rattle.std.proofs.Common.{◌≡◌, ◌⊎◌, ℕ, ◌<◌, subst, ⊎_elim}
-use Rattle.cqs_views.specs.declared.view.View.{View}
-use Rattle.cqs_views.specs.Inside.{IsInside}
-use Rattle.cqs_views.specs.Lists.{Has}
-use Rattle.cqs_views.specs.Ruled.{number_at}
+use Rattle.cqs_rule_laws.specs.declared.view.View.{View}
+use Rattle.cqs_rule_laws.specs.Inside.{IsInside}
+use Rattle.cqs_rule_laws.specs.Lists.{Has}
+use Rattle.cqs_rule_laws.specs.Ruled.{number_at}
 
 pub below-cells : {E S : Type 0} (v : View E S) (i : ℕ) → IsInside v
     → (number_at v.facts.doing ≡ i) ⊎ Has i v.facts.waits → i < v.cells

@@ -1,13 +1,13 @@
 -- What a search leaves: a step from there tells as much as one from where it began.
 use Rattle.std.proofs.Common.{List, [], ◌++◌, refl, sym, ◌∙◌, arith}
 use Rattle.std.proofs.lemmas.List.{append-nil}
-use Rattle.cqs_views.specs.declared.config.Place.{Place}
-use Rattle.cqs_views.specs.declared.view.Facts.{Facts}
-use Rattle.cqs_views.specs.declared.view.View.{View}
-use Rattle.cqs_views.specs.Object.{Object}
-use Rattle.cqs_views.specs.Placed.{KnowsPlace}
-use Rattle.cqs_views.specs.Saw.{Saw}
-use Rattle.cqs_views.proofs.Calls.{same-here, saw-then}
+use Rattle.cqs_rule_laws.specs.declared.config.Place.{Place}
+use Rattle.cqs_rule_laws.specs.declared.view.Facts.{Facts}
+use Rattle.cqs_rule_laws.specs.declared.view.View.{View}
+use Rattle.cqs_rule_laws.specs.Object.{Object}
+use Rattle.cqs_rule_laws.specs.Placed.{KnowsPlace}
+use Rattle.cqs_rule_laws.specs.Saw.{Saw}
+use Rattle.cqs_rule_laws.proofs.Calls.{same-here, saw-then}
 use Rattle.cqs_rule.proofs.Places.{knows-saw}
 use Rattle.cqs_find.specs.Finds.{Searched}
 
@@ -29,7 +29,6 @@ module _ {E S : Type 0} (object : Object E) where
       same = same-here v;
       handed = ([], sym (append-nil v.handed));
       unlaid = λ j bare. bare;
-      homes = ([], sym (append-nil v.homes));
       sole = λ a. refl;
     };
   }

@@ -1,15 +1,16 @@
 //! Where the cell of a number stands.
 //!
-//! Until segments come, the cells stand in a row, and each number has its word for good.
+//! As long as no slot is used again, each segment stands in the slot of its number, and each number
+//! has its word for good.
 #![tactic(auto)]
 
 ghost use Rattle.std.specs.Prelude.{◌≡◌, ◌⊎◌};
 ghost use Rattle.cqs_find.specs.Finds.{IsFoundAt, HasSearched};
-ghost use Rattle.cqs_views.specs.Lists.{Has};
+ghost use Rattle.cqs_rule_laws.specs.Lists.{Has};
 ghost use Rattle.cqs_rule.specs.Passes.{pass_view, IsOf};
-ghost use Rattle.cqs_views.specs.Ruled.{number_at};
+ghost use Rattle.cqs_rule_laws.specs.Ruled.{number_at};
 
-use cqs_rule::{CELLS_WORD, ClientWords, Pass, Place, Queue};
+use cqs_rule::{CELLS_WORD, ClientWords, Pass, Place, Queue, SLOT_STRIDE};
 
 /// Where a cell was found.
 #[derive(Clone, Copy)]
@@ -30,7 +31,7 @@ pub fn find<C: ClientWords>(queue: &Queue<C>, pass: &mut Pass<C>, index: u64) ->
     ensures searched { HasSearched pass.old pass.new }
 {
     Found::At(Place {
-        word: index as u32 + CELLS_WORD,
+        word: (index / 32 * SLOT_STRIDE + index % 32) as u32 + CELLS_WORD,
         index,
     })
 }

@@ -9,18 +9,18 @@ use Rattle.cqs_core.specs.QueueSteps.{QueueStep, row_of, CellRow, StepRow, at_ce
 use Rattle.cqs_words.specs.declared.cell.CellState.{CellState}
 use Rattle.cqs_words.specs.declared.cell.CellState.TheVariants as shown
 use Rattle.cqs_words.specs.declared.cell.CellWord.{CellWord}
-use Rattle.cqs_views.specs.declared.view.Facts.{Facts}
-use Rattle.cqs_views.specs.declared.view.Glimpse.{Glimpse}
-use Rattle.cqs_views.specs.declared.view.Opening.{Opening}
-use Rattle.cqs_views.specs.declared.view.View.{View}
-use Rattle.cqs_views.specs.Exchanges.{FoundCell, HasCell, SinceLast, IsFoundSince}
-use Rattle.cqs_views.specs.Facts.{facts_worked, facts_after}
-use Rattle.cqs_views.specs.Hidden.{Gains}
-use Rattle.cqs_views.specs.Loads.{misses, event_of, facts_looked, look_entries, told_at}
-use Rattle.cqs_views.specs.Object.{Object, Primitive}
-use Rattle.cqs_views.specs.Ruled.{shown_state}
-use Rattle.cqs_views.specs.Saw.{Saw, WasFound}
-use Rattle.cqs_views.proofs.CellSteps.{shown-injective}
+use Rattle.cqs_rule_laws.specs.declared.view.Facts.{Facts}
+use Rattle.cqs_rule_laws.specs.declared.view.Glimpse.{Glimpse}
+use Rattle.cqs_rule_laws.specs.declared.view.Opening.{Opening}
+use Rattle.cqs_rule_laws.specs.declared.view.View.{View}
+use Rattle.cqs_rule_laws.specs.Exchanges.{FoundCell, HasCell, SinceLast, IsFoundSince}
+use Rattle.cqs_rule_laws.specs.Facts.{facts_worked, facts_after}
+use Rattle.cqs_rule_laws.specs.Hidden.{Gains}
+use Rattle.cqs_rule_laws.specs.Loads.{misses, event_of, facts_looked, look_entries, told_at}
+use Rattle.cqs_rule_laws.specs.Object.{Object, Primitive}
+use Rattle.cqs_rule_laws.specs.Ruled.{shown_state}
+use Rattle.cqs_rule_laws.specs.Saw.{Saw, WasFound}
+use Rattle.cqs_rule_laws.proofs.CellSteps.{shown-injective}
 use Rattle.cqs_cell.specs.Looks.{LooksAt}
 use Rattle.cqs_resume.specs.AtOnce.{IsPlain, ShowsPlain}
 use Rattle.cqs_resume.specs.Meets.{cell_of}

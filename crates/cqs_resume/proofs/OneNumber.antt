@@ -13,23 +13,23 @@ use Rattle.cqs_core.specs.QueueSteps.{QueueStep, row_of, CellRow, StepRow, at_co
 use Rattle.cqs_words.specs.declared.cell.CellState.{CellState}
 use Rattle.cqs_words.specs.declared.cell.CellState.TheVariants as shown
 use Rattle.cqs_words.specs.declared.cell.CellWord.{CellWord}
-use Rattle.cqs_views.specs.declared.config.Place.{Place}
-use Rattle.cqs_views.specs.declared.view.Facts.{Facts}
-use Rattle.cqs_views.specs.declared.view.Glimpse.{Glimpse}
-use Rattle.cqs_views.specs.declared.view.Sighting.{Sighting}
-use Rattle.cqs_views.specs.declared.view.Sighting.TheVariants.{Cell}
-use Rattle.cqs_views.specs.declared.view.View.{View}
+use Rattle.cqs_rule_laws.specs.declared.config.Place.{Place}
+use Rattle.cqs_rule_laws.specs.declared.view.Facts.{Facts}
+use Rattle.cqs_rule_laws.specs.declared.view.Glimpse.{Glimpse}
+use Rattle.cqs_rule_laws.specs.declared.view.Sighting.{Sighting}
+use Rattle.cqs_rule_laws.specs.declared.view.Sighting.TheVariants.{Cell}
+use Rattle.cqs_rule_laws.specs.declared.view.View.{View}
 use Rattle.cqs_rule.specs.Callbacks.{EndedRefused}
-use Rattle.cqs_views.specs.Exchanges.{FoundCell, HasCell, SinceLast, IsFoundSince}
-use Rattle.cqs_views.specs.Facts.{facts_worked, facts_missed, facts_after}
-use Rattle.cqs_views.specs.Hidden.{Gains}
-use Rattle.cqs_views.specs.Loads.{meets, event_of, facts_looked, look_entries, told_at}
-use Rattle.cqs_views.specs.Object.{Object, Primitive}
-use Rattle.cqs_views.specs.Placed.{KnowsPlace}
-use Rattle.cqs_views.specs.Ruled.{shown_state}
-use Rattle.cqs_views.specs.Saw.{Saw, WasFound}
-use Rattle.cqs_views.proofs.Calls.{saw-then}
-use Rattle.cqs_views.proofs.CellSteps.{shown-injective}
+use Rattle.cqs_rule_laws.specs.Exchanges.{FoundCell, HasCell, SinceLast, IsFoundSince}
+use Rattle.cqs_rule_laws.specs.Facts.{facts_worked, facts_missed, facts_after}
+use Rattle.cqs_rule_laws.specs.Hidden.{Gains}
+use Rattle.cqs_rule_laws.specs.Loads.{meets, event_of, facts_looked, look_entries, told_at}
+use Rattle.cqs_rule_laws.specs.Object.{Object, Primitive}
+use Rattle.cqs_rule_laws.specs.Placed.{KnowsPlace}
+use Rattle.cqs_rule_laws.specs.Ruled.{shown_state}
+use Rattle.cqs_rule_laws.specs.Saw.{Saw, WasFound}
+use Rattle.cqs_rule_laws.proofs.Calls.{saw-then}
+use Rattle.cqs_rule_laws.proofs.CellSteps.{shown-injective}
 use Rattle.cqs_rule.proofs.Places.{knows-saw}
 use Rattle.cqs_cell.specs.Looks.{LooksAt}
 use Rattle.cqs_cell.specs.Transitions.{facts_since, Made, MadeBy, Missed}

@@ -7,23 +7,23 @@ use Rattle.cqs_core.specs.declared.doings.Doing.{Doing}
 use Rattle.cqs_core.specs.declared.doings.Doing.TheVariants as doing
 use Rattle.cqs_core.specs.QueueSteps.{QueueStep, reaches, serves, leaves, delegates, passes_over, ends_refused}
 use Rattle.cqs_rule.specs.declared.queue.tokens.Under as token
-use Rattle.cqs_views.specs.declared.view.Facts.{Facts}
-use Rattle.cqs_views.specs.declared.view.Sighting.{Sighting}
-use Rattle.cqs_views.specs.declared.view.Sighting.TheVariants.{Cell, Word}
-use Rattle.cqs_views.specs.declared.view.View.{View}
-use Rattle.cqs_views.specs.Called.{Called}
-use Rattle.cqs_views.specs.Counts.{Drew}
-use Rattle.cqs_views.specs.Exchanges.{HasCell}
-use Rattle.cqs_views.specs.Facts.{IsBehind}
-use Rattle.cqs_views.specs.Hidden.{Hidden}
-use Rattle.cqs_views.specs.Layout.{resumes_place}
-use Rattle.cqs_views.specs.Lists as lists
-use Rattle.cqs_views.specs.Lists.{IsPrefix}
-use Rattle.cqs_views.specs.Object.{Object, Primitive}
+use Rattle.cqs_rule_laws.specs.declared.view.Facts.{Facts}
+use Rattle.cqs_rule_laws.specs.declared.view.Sighting.{Sighting}
+use Rattle.cqs_rule_laws.specs.declared.view.Sighting.TheVariants.{Cell, Word}
+use Rattle.cqs_rule_laws.specs.declared.view.View.{View}
+use Rattle.cqs_rule_laws.specs.Called.{Called}
+use Rattle.cqs_rule_laws.specs.Counts.{Drew}
+use Rattle.cqs_rule_laws.specs.Exchanges.{HasCell}
+use Rattle.cqs_rule_laws.specs.Facts.{IsBehind}
+use Rattle.cqs_rule_laws.specs.Hidden.{Hidden}
+use Rattle.cqs_rule_laws.specs.Layout.{resumes_place}
+use Rattle.cqs_rule_laws.specs.Lists as lists
+use Rattle.cqs_rule_laws.specs.Lists.{IsPrefix}
+use Rattle.cqs_rule_laws.specs.Object.{Object, Primitive}
 use Rattle.cqs_rule.specs.Owed.{HasUnder, under_payload, under_ticket, under_reached}
-use Rattle.cqs_views.specs.Saw.{WasShown, WasFound}
-use Rattle.cqs_views.proofs.Calls.{called-by, called-then, called-and}
-use Rattle.cqs_views.proofs.Lists.{has_left, has_right}
+use Rattle.cqs_rule_laws.specs.Saw.{WasShown, WasFound}
+use Rattle.cqs_rule_laws.proofs.Calls.{called-by, called-then, called-and}
+use Rattle.cqs_rule_laws.proofs.Lists.{has_left, has_right}
 use Rattle.cqs_resume.specs.declared.resumed.Resumed.{Resumed}
 use Rattle.cqs_resume.specs.declared.resumed.Resumed.TheVariants.{Served, Left, Refused, Under}
 use Rattle.cqs_resume.specs.Rounds.{Round, cell_in, IsFoundIn, IsOpenedWith, AreDrawn, numbers, one_if, round_seen, all_seen, all_heads, facts_after_rounds, round_entries, over_entries}

@@ -4,19 +4,19 @@ use Rattle.cqs_core.specs.declared.cells.CoreState.{CoreState}
 use Rattle.cqs_core.specs.declared.cells.CoreState.TheVariants as state
 use Rattle.cqs_core.specs.declared.doings.Doing.TheVariants as doing
 use Rattle.cqs_core.specs.QueueSteps.{QueueStep, serves, leaves, delegates, passes_over, ends_refused}
-use Rattle.cqs_views.specs.declared.client.ClientWords.{Ghosts}
+use Rattle.cqs_rule_laws.specs.declared.client.ClientWords.{Ghosts}
 use Rattle.cqs_rule.specs.declared.queue.Pass.{Pass}
 use Rattle.cqs_rule.specs.declared.queue.tokens.Under as token
-use Rattle.cqs_views.specs.declared.view.View.{View}
-use Rattle.cqs_views.specs.Called.{Called}
-use Rattle.cqs_views.specs.Exchanges.{HasCell}
-use Rattle.cqs_views.specs.Facts.{IsBehind}
-use Rattle.cqs_views.specs.Hidden.{Hidden}
-use Rattle.cqs_views.specs.Lists.{IsPrefix}
-use Rattle.cqs_views.specs.Object.{Object, Primitive}
+use Rattle.cqs_rule_laws.specs.declared.view.View.{View}
+use Rattle.cqs_rule_laws.specs.Called.{Called}
+use Rattle.cqs_rule_laws.specs.Exchanges.{HasCell}
+use Rattle.cqs_rule_laws.specs.Facts.{IsBehind}
+use Rattle.cqs_rule_laws.specs.Hidden.{Hidden}
+use Rattle.cqs_rule_laws.specs.Lists.{IsPrefix}
+use Rattle.cqs_rule_laws.specs.Object.{Object, Primitive}
 use Rattle.cqs_rule.specs.Owed.{HasUnder, under_payload, under_ticket, under_reached}
 use Rattle.cqs_rule.specs.Passes.{pass_view}
-use Rattle.cqs_views.specs.Saw.{WasShown, WasFound}
+use Rattle.cqs_rule_laws.specs.Saw.{WasShown, WasFound}
 use Rattle.cqs_resume.specs.declared.resumed.Resumed.{Resumed}
 use Rattle.cqs_resume.specs.declared.resumed.Resumed.TheVariants.{Served, Left, Refused, Under}
 use Rattle.cqs_resume.specs.Rounds.{Round, cell_in, IsFoundIn, IsOpenedWith, numbers, drawn_in, facts_after_rounds, round_entries, over_entries}

@@ -3,13 +3,13 @@ use Rattle.std.specs.Prelude.{◌≡◌, ℕ, ◌+◌, ◌≤◌, Bool, true, fa
 use Rattle.cqs_core.specs.declared.cells.CoreState.{CoreState}
 use Rattle.cqs_core.specs.declared.doings.Doing.{Doing}
 use Rattle.cqs_core.specs.QueueSteps.{QueueStep, reaches, passes_over}
-use Rattle.cqs_views.specs.declared.view.Facts.{Facts}
-use Rattle.cqs_views.specs.declared.view.Glimpse.{Glimpse}
-use Rattle.cqs_views.specs.declared.view.Sighting.{Sighting}
-use Rattle.cqs_views.specs.declared.view.Sighting.TheVariants.{Cell, Word}
-use Rattle.cqs_views.specs.Exchanges.{FoundCell}
-use Rattle.cqs_views.specs.Layout.{resumes_place}
-use Rattle.cqs_views.specs.Object.{Object}
+use Rattle.cqs_rule_laws.specs.declared.view.Facts.{Facts}
+use Rattle.cqs_rule_laws.specs.declared.view.Glimpse.{Glimpse}
+use Rattle.cqs_rule_laws.specs.declared.view.Sighting.{Sighting}
+use Rattle.cqs_rule_laws.specs.declared.view.Sighting.TheVariants.{Cell, Word}
+use Rattle.cqs_rule_laws.specs.Exchanges.{FoundCell}
+use Rattle.cqs_rule_laws.specs.Layout.{resumes_place}
+use Rattle.cqs_rule_laws.specs.Object.{Object}
 use Rattle.cqs_find.specs.Finds.{longest_search}
 
 -- One number of a resumption: it is drawn, and then its cell is tried until a step is made there.

@@ -2,7 +2,7 @@
 
 ghost use Rattle.std.specs.Prelude.{◌≡◌, ◌<◌};
 ghost use Rattle.cqs_core.specs.declared.doings.Doing.TheVariants as doing;
-ghost use Rattle.cqs_views.specs.Manner.{IsAtOnce, OwesFurther};
+ghost use Rattle.cqs_rule_laws.specs.Manner.{IsAtOnce, OwesFurther};
 ghost use Rattle.cqs_rule.specs.Owed.{HasUnder, under_payload, under_ticket};
 ghost use Rattle.cqs_rule.specs.Passes.{pass_view, client_of, IsOf};
 ghost use Rattle.cqs_resume.specs.AtOnce.{HasMetAtOnce, HasBegunAtOnce, HasFinishedAtOnce, ShowsPlain};

@@ -2,7 +2,7 @@
 
 ghost use Rattle.std.specs.Prelude.{◌≡◌, ◌<◌};
 ghost use Rattle.cqs_core.specs.declared.doings.Doing.TheVariants as doing;
-ghost use Rattle.cqs_views.specs.Manner.{IsSmart, OwesFurther};
+ghost use Rattle.cqs_rule_laws.specs.Manner.{IsSmart, OwesFurther};
 ghost use Rattle.cqs_rule.specs.Passes.{pass_view, client_of, IsOf};
 ghost use Rattle.cqs_resume.specs.Begins.{HasBegun};
 

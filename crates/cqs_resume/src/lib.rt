@@ -1,8 +1,16 @@
-//! Resuming: a pass that owes a resumption draws a number, and serves the waiter in its cell or
-//! leaves its value there.
+//! Resuming: how what is given comes to who waits. A pass that owes a resumption draws a number,
+//! and serves the waiter in its cell or leaves its value there.
 //!
-//! A waiter may have left the line: its cell is passed over, and the next number is drawn. After 64
-//! such numbers the call hands the resumption back, for `finish` to go on with.
+//! ```text
+//!  owes a resumption --- draws k --> cell k:  Waiter     -> Resumed:   Served
+//!       ^                                     Empty      -> Value:     Left, for who comes to wait
+//!       |                                     Cancelling -> Delegated: Left, for who is leaving
+//!       |                                     Refused:                 Refused, it ends there
+//!       '------- passes over k <------------- Cancelled: its waiter has left
+//! ```
+//!
+//! After 64 numbers that were passed over the call hands the resumption back, for `finish` to go on
+//! with.
 #![tactic(auto)]
 
 mod at_once;

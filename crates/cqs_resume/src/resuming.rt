@@ -2,7 +2,7 @@
 
 ghost use Rattle.std.specs.Prelude.{◌≡◌, ◌<◌, None};
 ghost use Rattle.cqs_core.specs.declared.doings.Doing.TheVariants as doing;
-ghost use Rattle.cqs_views.specs.Manner.{IsSmart};
+ghost use Rattle.cqs_rule_laws.specs.Manner.{IsSmart};
 ghost use Rattle.cqs_rule.specs.Owed.{HasUnder, under_payload, under_ticket, under_reached};
 ghost use Rattle.cqs_rule.specs.Passes.{pass_view, client_of, IsOf};
 ghost use Rattle.cqs_resume.specs.Resumes.{HasResumed, IsFurther, most_passed_over};

@@ -1,11 +1,11 @@
 -- What a pass keeps after an exchange on a cell.
 use Rattle.std.proofs.Common.{◌≡◌, ◌≢◌, ℕ, ap}
 use Rattle.cqs_core.specs.QueueSteps.{QueueStep, StepRow, at_counter, at_cell}
-use Rattle.cqs_views.specs.declared.view.Facts.{Facts}
-use Rattle.cqs_views.specs.declared.view.View.{View}
-use Rattle.cqs_views.specs.Exchanges.{CrossedBy}
-use Rattle.cqs_views.specs.Object.{Object, Primitive}
-use Rattle.cqs_views.specs.Views.{IsSame}
+use Rattle.cqs_rule_laws.specs.declared.view.Facts.{Facts}
+use Rattle.cqs_rule_laws.specs.declared.view.View.{View}
+use Rattle.cqs_rule_laws.specs.Exchanges.{CrossedBy}
+use Rattle.cqs_rule_laws.specs.Object.{Object, Primitive}
+use Rattle.cqs_rule_laws.specs.Views.{IsSame}
 
 -- what a pass counts is as it was
 pub record Stays {E S : Type 0} (v w : View E S) : Type 0 where

@@ -1,14 +1,14 @@
 -- What a step on a word of the client asks and tells, at the place where the word stands.
 use Rattle.std.proofs.Common.{◌≡◌, ℕ, ◌<◌, ◌∙◌, Bool, sym, ap, subst}
 use Rattle.atomic_table.specs.Seated.{TableId}
-use Rattle.cqs_views.specs.declared.client.ClientWords.{Ghosts}
+use Rattle.cqs_rule_laws.specs.declared.client.ClientWords.{Ghosts}
 use Rattle.cqs_rule.specs.declared.queue.Pass.{Pass}
 use Rattle.cqs_rule.specs.declared.queue.Queue.{Queue}
 use Rattle.cqs_rule.specs.Passes.{pass_view}
-use Rattle.cqs_views.specs.declared.view.View.{View}
-use Rattle.cqs_views.specs.Events.{Event, Moved}
-use Rattle.cqs_views.specs.Layout.{client_place, words_for}
-use Rattle.cqs_views.proofs.CellPlaces.{client-inside}
+use Rattle.cqs_rule_laws.specs.declared.view.View.{View}
+use Rattle.cqs_rule_laws.specs.Events.{Event, Moved}
+use Rattle.cqs_rule_laws.specs.Layout.{client_place, words_for}
+use Rattle.cqs_rule_laws.proofs.CellPlaces.{client-inside}
 
 module _ {C S E : Type 0} {g : Ghosts C S E} where
   -- it stands inside the table

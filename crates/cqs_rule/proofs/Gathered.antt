@@ -1,22 +1,21 @@
 -- What a pass keeps that takes in another one.
 use Rattle.std.proofs.Common.{◌≡◌, ℕ, ◌+◌, ◌<◌, ◌∙◌, List, ◌++◌, length, Option, sym, ap, subst}
-use Rattle.cqs_views.specs.declared.client.ClientWords.{Ghosts}
+use Rattle.cqs_rule_laws.specs.declared.client.ClientWords.{Ghosts}
 use Rattle.cqs_rule.specs.declared.queue.Pass.{Pass}
 use Rattle.cqs_rule.specs.Passes.{pass_view}
-use Rattle.cqs_views.specs.declared.view.Facts.{Facts}
-use Rattle.cqs_views.specs.declared.view.View.{View}
-use Rattle.cqs_views.specs.Crew.{Met}
-use Rattle.cqs_views.specs.Facts.{is_owing}
-use Rattle.cqs_views.specs.Layout.{words_for}
-use Rattle.cqs_views.specs.Saw.{IsLive}
-use Rattle.cqs_views.specs.Views.{has_both, joined}
+use Rattle.cqs_rule_laws.specs.declared.view.Facts.{Facts}
+use Rattle.cqs_rule_laws.specs.declared.view.View.{View}
+use Rattle.cqs_rule_laws.specs.Crew.{Met}
+use Rattle.cqs_rule_laws.specs.Facts.{is_owing}
+use Rattle.cqs_rule_laws.specs.Layout.{words_for}
+use Rattle.cqs_rule_laws.specs.Saw.{IsLive}
+use Rattle.cqs_rule_laws.specs.Views.{facts_joined, joined}
 use Rattle.cqs_rule.proofs.Moved.{Keeps}
 
 module _ {C S E : Type 0} {g : Ghosts C S E} where
   -- what is left of the two passes
   pub record Gathered (p given : Pass C S E g) (w : View E S) : Type 0 where
-    pub met : Met g.object (pass_view p)
-        (record (pass_view p).facts { has = has_both (pass_view p).facts.has (pass_view given).facts.has })
+    pub met : Met g.object (pass_view p) (facts_joined (pass_view p).facts (pass_view given).facts)
         (pass_view given).seen (pass_view given).handed (pass_view given).own w
     pub laid : w.laid ≡ (pass_view p).laid ++ (pass_view given).laid
 
@@ -43,6 +42,7 @@ module _ {C S E : Type 0} {g : Ghosts C S E} where
           cells = m.cells;
           passes = m.passes;
           opening = m.opening;
+          segments = m.segments;
         };
         laid = l;
       })

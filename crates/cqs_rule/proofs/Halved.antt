@@ -1,16 +1,16 @@
 -- What the two passes keep that one was cut into.
 use Rattle.std.proofs.Common.{◌≡◌, ℕ, ◌-◌, ◌<◌, ◌≤◌, ◌∙◌, true, false, List, [], length, Option, sym, ap, subst, arith}
 use Rattle.atomic_table.specs.Seated.{TableId}
-use Rattle.cqs_views.specs.declared.client.ClientWords.{Ghosts}
+use Rattle.cqs_rule_laws.specs.declared.client.ClientWords.{Ghosts}
 use Rattle.cqs_rule.specs.declared.queue.Pass.{Pass}
 use Rattle.cqs_rule.specs.Passes.{pass_view}
-use Rattle.cqs_views.specs.declared.view.Facts.{Facts}
-use Rattle.cqs_views.specs.declared.view.View.{View}
-use Rattle.cqs_views.specs.Facts.{is_owing}
-use Rattle.cqs_views.specs.Layout.{words_for}
-use Rattle.cqs_views.specs.Views.{made_in, single, cut_off}
-use Rattle.cqs_views.proofs.CrewHeld.{lessened-held, lessened-further, lessened-spares}
-use Rattle.cqs_views.proofs.Tries.{Leaves, Begins}
+use Rattle.cqs_rule_laws.specs.declared.view.Facts.{Facts}
+use Rattle.cqs_rule_laws.specs.declared.view.View.{View}
+use Rattle.cqs_rule_laws.specs.Facts.{is_owing}
+use Rattle.cqs_rule_laws.specs.Layout.{words_for}
+use Rattle.cqs_rule_laws.specs.Views.{made_in, single, cut_off}
+use Rattle.cqs_rule_laws.proofs.CrewHeld.{lessened-held, lessened-further, lessened-spares}
+use Rattle.cqs_rule_laws.proofs.Tries.{Leaves, Begins}
 use Rattle.cqs_rule.proofs.Moved.{Keeps}
 
 -- there was room for another pass

@@ -8,3 +8,4 @@ pub mod Numbers
 pub mod Places
 pub mod Slots
 pub mod Words
+pub mod Histories

@@ -1,17 +1,17 @@
 -- What a pass keeps that has looked at the crew's word.
 use Rattle.std.proofs.Common.{◌≡◌, ℕ, ◌<◌, ◌∙◌, List, [], length, Option, sym, ap, subst, arith}
 use Rattle.atomic_table.specs.Seated.{TableId}
-use Rattle.cqs_views.specs.declared.client.ClientWords.{Ghosts}
+use Rattle.cqs_rule_laws.specs.declared.client.ClientWords.{Ghosts}
 use Rattle.cqs_rule.specs.declared.queue.Pass.{Pass}
 use Rattle.cqs_rule.specs.declared.queue.Queue.{Queue}
 use Rattle.cqs_rule.specs.Passes.{pass_view}
-use Rattle.cqs_views.specs.declared.view.Facts.{Facts}
-use Rattle.cqs_views.specs.declared.view.View.{View}
-use Rattle.cqs_views.specs.Facts.{is_owing}
-use Rattle.cqs_views.specs.Inside.{IsInside}
-use Rattle.cqs_views.specs.Layout.{words_for}
-use Rattle.cqs_views.specs.Saw.{Saw}
-use Rattle.cqs_views.specs.Views.{as_before}
+use Rattle.cqs_rule_laws.specs.declared.view.Facts.{Facts}
+use Rattle.cqs_rule_laws.specs.declared.view.View.{View}
+use Rattle.cqs_rule_laws.specs.Facts.{is_owing}
+use Rattle.cqs_rule_laws.specs.Inside.{IsInside}
+use Rattle.cqs_rule_laws.specs.Layout.{words_for}
+use Rattle.cqs_rule_laws.specs.Saw.{Saw}
+use Rattle.cqs_rule_laws.specs.Views.{as_before}
 use Rattle.cqs_rule.proofs.Moved.{Keeps}
 
 module _ {C S E : Type 0} {g : Ghosts C S E} where

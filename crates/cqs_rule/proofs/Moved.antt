@@ -1,15 +1,15 @@
 -- What a pass keeps after a step on a word of the client.
 use Rattle.std.proofs.Common.{◌≡◌, ℕ, ◌<◌, ◌^◌, ◌∙◌, Bool, List, length, Option, None, sym, refl, ap, subst}
-use Rattle.cqs_views.specs.declared.client.ClientWords.{Ghosts}
+use Rattle.cqs_rule_laws.specs.declared.client.ClientWords.{Ghosts}
 use Rattle.cqs_rule.specs.declared.queue.Pass.{Pass}
 use Rattle.cqs_rule.specs.Passes.{pass_view}
-use Rattle.cqs_views.specs.declared.view.Facts.{Facts}
-use Rattle.cqs_views.specs.declared.view.View.{View}
-use Rattle.cqs_views.specs.Events.{Event, Moment, IsMoment, Moved, moment}
-use Rattle.cqs_views.specs.Facts.{is_owing}
-use Rattle.cqs_views.specs.Inside.{IsInside}
-use Rattle.cqs_views.specs.Layout.{words_for}
-use Rattle.cqs_views.specs.Saw.{IsLive}
+use Rattle.cqs_rule_laws.specs.declared.view.Facts.{Facts}
+use Rattle.cqs_rule_laws.specs.declared.view.View.{View}
+use Rattle.cqs_rule_laws.specs.Events.{Event, Moment, IsMoment, Moved, moment}
+use Rattle.cqs_rule_laws.specs.Facts.{is_owing}
+use Rattle.cqs_rule_laws.specs.Inside.{IsInside}
+use Rattle.cqs_rule_laws.specs.Layout.{words_for}
+use Rattle.cqs_rule_laws.specs.Saw.{IsLive}
 
 module _ {S E : Type 0} where
   -- what a pass with these counts keeps

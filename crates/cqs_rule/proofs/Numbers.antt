@@ -1,11 +1,11 @@
 -- What a pass keeps after it drew a number.
 use Rattle.std.proofs.Common.{◌≡◌, ℕ, length, arith}
 use Rattle.cqs_core.specs.QueueSteps.{QueueStep, StepRow, at_counter, at_cell}
-use Rattle.cqs_views.specs.declared.view.View.{View}
-use Rattle.cqs_views.specs.Counts.{DrewBy}
-use Rattle.cqs_views.specs.Kinds.{Carries}
-use Rattle.cqs_views.specs.Object.{Object}
-use Rattle.cqs_views.specs.Views.{IsSame}
+use Rattle.cqs_rule_laws.specs.declared.view.View.{View}
+use Rattle.cqs_rule_laws.specs.Counts.{DrewBy}
+use Rattle.cqs_rule_laws.specs.Kinds.{Carries}
+use Rattle.cqs_rule_laws.specs.Object.{Object}
+use Rattle.cqs_rule_laws.specs.Views.{IsSame}
 
 -- it holds as much as it did, and has as many waits
 pub record Draws {E S : Type 0} (v w : View E S) : Type 0 where

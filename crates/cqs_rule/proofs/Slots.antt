@@ -1,10 +1,10 @@
 -- A slot is taken out, what lies in it is exchanged, and it is put back.
 use Rattle.std.proofs.Common.{◌≡◌, ◌∙◌, ℕ, List, [], ◌∷◌, Option, None, Some, ap, sym, subst}
 use Rattle.atomic_table.specs.Table.{rest}
-use Rattle.cqs_views.specs.declared.view.View.{View}
-use Rattle.cqs_views.specs.SlotSteps.{TookOut, PutBack, Swapped, LayIn, HandedIn}
-use Rattle.cqs_views.proofs.Lists.{prefix-then}
-use Rattle.cqs_views.proofs.Swaps.{swapped-then}
+use Rattle.cqs_rule_laws.specs.declared.view.View.{View}
+use Rattle.cqs_rule_laws.specs.SlotSteps.{TookOut, PutBack, Swapped, LayIn, HandedIn}
+use Rattle.cqs_rule_laws.proofs.Lists.{prefix-then}
+use Rattle.cqs_rule_laws.proofs.Swaps.{swapped-then}
 
 -- what lies in the first of such slots
 abbrev value_in : {S : Type 0} → List (ℕ × Option S) → Option S

@@ -3,18 +3,18 @@
 use Rattle.std.specs.Prelude.{◌≡◌, ◌⊎◌, ℕ, Bool, true, List, [], ◌∷◌, ◌++◌}
 use Rattle.cqs_core.specs.declared.cells.CoreState.TheVariants as state
 use Rattle.cqs_core.specs.declared.doings.Doing.TheVariants as doing
-use Rattle.cqs_views.specs.declared.client.ClientWords.{Ghosts}
+use Rattle.cqs_rule_laws.specs.declared.client.ClientWords.{Ghosts}
 use Rattle.cqs_rule.specs.declared.queue.Pass.{Pass}
 use Rattle.cqs_rule.specs.declared.queue.Queue.{Queue}
-use Rattle.cqs_views.specs.declared.view.Facts.{Facts}
-use Rattle.cqs_views.specs.declared.view.Sighting.{Sighting}
-use Rattle.cqs_views.specs.declared.view.Sighting.TheVariants.{Cell}
-use Rattle.cqs_views.specs.declared.view.View.{View}
-use Rattle.cqs_views.specs.Events.{Event, Moved, moment, in_any_case}
-use Rattle.cqs_views.specs.Exchanges.{FoundCell}
-use Rattle.cqs_views.specs.Layout.{client_place}
-use Rattle.cqs_views.specs.Manner.{Manner, Asks}
-use Rattle.cqs_views.specs.Object.{Object, Primitive}
+use Rattle.cqs_rule_laws.specs.declared.view.Facts.{Facts}
+use Rattle.cqs_rule_laws.specs.declared.view.Sighting.{Sighting}
+use Rattle.cqs_rule_laws.specs.declared.view.Sighting.TheVariants.{Cell}
+use Rattle.cqs_rule_laws.specs.declared.view.View.{View}
+use Rattle.cqs_rule_laws.specs.Events.{Event, Moved, moment, in_any_case}
+use Rattle.cqs_rule_laws.specs.Exchanges.{FoundCell}
+use Rattle.cqs_rule_laws.specs.Layout.{client_place}
+use Rattle.cqs_rule_laws.specs.Manner.{Manner, Asks}
+use Rattle.cqs_rule_laws.specs.Object.{Object, Primitive}
 use Rattle.cqs_rule.specs.Passes.{pass_view, client_of}
 
 -- How a client is asked whether a waiter leaves the line: by one step on this word of its own,

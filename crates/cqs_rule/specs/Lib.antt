@@ -4,3 +4,4 @@ pub mod Steps
 pub mod Seats
 pub mod Waits
 pub mod Owed
+pub mod Histories

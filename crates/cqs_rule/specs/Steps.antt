@@ -1,16 +1,16 @@
 -- What a step is allowed by and what it tells, by the pass before and after it.
 use Rattle.std.specs.Prelude.{◌≡◌, ℕ, Bool, Some}
 use Rattle.cqs_core.specs.QueueSteps.{QueueStep, puts, row_of}
-use Rattle.cqs_views.specs.declared.client.ClientWords.{Ghosts}
+use Rattle.cqs_rule_laws.specs.declared.client.ClientWords.{Ghosts}
 use Rattle.cqs_rule.specs.declared.queue.Pass.{Pass}
 use Rattle.cqs_rule.specs.declared.queue.Queue.{Queue}
-use Rattle.cqs_views.specs.Counts.{DrewBy, Drew}
-use Rattle.cqs_views.specs.Events.{Event, Moves, SlotsStay, Moved}
-use Rattle.cqs_views.specs.Exchanges.{CrossedBy}
-use Rattle.cqs_views.specs.Layout.{client_place}
-use Rattle.cqs_views.specs.Slots.{laid_in}
-use Rattle.cqs_views.specs.SlotSteps.{GivesAway, HandedIn}
-use Rattle.cqs_views.specs.Loads.{LoadStep, Loaded}
+use Rattle.cqs_rule_laws.specs.Counts.{DrewBy, Drew}
+use Rattle.cqs_rule_laws.specs.Events.{Event, Moves, SlotsStay, Moved}
+use Rattle.cqs_rule_laws.specs.Exchanges.{CrossedBy}
+use Rattle.cqs_rule_laws.specs.Layout.{client_place}
+use Rattle.cqs_rule_laws.specs.Slots.{laid_in}
+use Rattle.cqs_rule_laws.specs.SlotSteps.{GivesAway, HandedIn}
+use Rattle.cqs_rule_laws.specs.Loads.{LoadStep, Loaded}
 use Rattle.cqs_rule.specs.Passes.{pass_view, client_of, slots_of}
 use Rattle.cqs_words.specs.Cell.{index_in}
 

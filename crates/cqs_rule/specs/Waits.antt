@@ -1,9 +1,9 @@
 -- What contracts see of a wait.
 use Rattle.std.specs.Prelude.{◌≡◌, ℕ}
-use Rattle.cqs_views.specs.declared.view.View.{View}
-use Rattle.cqs_views.specs.Lists.{Has}
-use Rattle.cqs_views.specs.Placed.{KnowsPlace}
-use Rattle.cqs_views.specs.declared.config.Place.{Place}
+use Rattle.cqs_rule_laws.specs.declared.view.View.{View}
+use Rattle.cqs_rule_laws.specs.Lists.{Has}
+use Rattle.cqs_rule_laws.specs.Placed.{KnowsPlace}
+use Rattle.cqs_rule_laws.specs.declared.config.Place.{Place}
 use Rattle.cqs_rule.specs.declared.queue.tokens.Wait.{Wait}
 
 -- the number of the wait, and where its cell stands

@@ -1,7 +1,7 @@
 //! What the queue calls back of its client, when a waiter leaves.
 
 use crate::queue::{Pass, Queue};
-use cqs_views::ClientWords;
+use cqs_rule_laws::ClientWords;
 
 /// A primitive, with what the queue calls back.
 pub trait Client: ClientWords<Slot: Send> {

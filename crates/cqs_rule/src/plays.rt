@@ -1,15 +1,15 @@
 //! What each step tells. These types are for the proofs alone.
 
-ghost use Rattle.cqs_views.specs.Crew.{IsSole, counted_by, tried_by, met_by};
-ghost use Rattle.cqs_views.specs.Counts.{drew};
-ghost use Rattle.cqs_views.specs.Events.{moved_by, exchanged_by, in_any_case};
-ghost use Rattle.cqs_views.specs.Exchanges.{crossed};
-ghost use Rattle.cqs_views.specs.Loads.{loaded_by};
-ghost use Rattle.cqs_views.specs.SlotSteps.{took_out, put_back, filled, given_by, put_by};
+ghost use Rattle.cqs_rule_laws.specs.Crew.{IsSole, counted_by, counted_after, tried_by, met_by};
+ghost use Rattle.cqs_rule_laws.specs.Counts.{drew};
+ghost use Rattle.cqs_rule_laws.specs.Events.{moved_by, exchanged_by, in_any_case};
+ghost use Rattle.cqs_rule_laws.specs.Exchanges.{crossed};
+ghost use Rattle.cqs_rule_laws.specs.Loads.{loaded_by};
+ghost use Rattle.cqs_rule_laws.specs.SlotSteps.{took_out, put_back, filled, given_by, put_by};
 
 use crate::queue::Numbered;
 use atomic_table::{Join, Split};
-use cqs_views::{ClientWords, Kind, Load, Shown, Telling, View};
+use cqs_rule_laws::{ClientWords, Kind, Load, Shown, Telling, View};
 use std::marker::{Brand, PhantomData};
 
 /// A load of the suspend counter or of a cell.
@@ -113,6 +113,15 @@ impl<C: ClientWords> Telling<C> for Count<C> {
     ghost told = { counted_by C.object (IsSole C.primitive) };
 }
 
+/// A load of the crew's word by a pass that has a note of what another has seen.
+pub(crate) struct CountAfter<C> {
+    of: PhantomData<C>,
+}
+
+impl<C: ClientWords> Telling<C> for CountAfter<C> {
+    ghost told = { counted_after C.object (IsSole C.primitive) };
+}
+
 /// How much of what its maker holds a pass gets that is made: a number of one call, which a type
 /// names, since a step tells nothing by what its caller alone knows.
 pub(crate) trait Gift {
@@ -147,7 +156,7 @@ impl<C: ClientWords> Telling<C> for Meet<C> {
 pub(crate) struct Cut;
 
 impl<E, S> Split<View<E, S>> for Cut {
-    ghost use Rattle.cqs_views.specs.Views.{single, cut_off};
+    ghost use Rattle.cqs_rule_laws.specs.Views.{single, cut_off};
 
     ghost left = { single };
 
@@ -158,9 +167,31 @@ impl<E, S> Split<View<E, S>> for Cut {
 pub(crate) struct Gather;
 
 impl<E, S> Join<View<E, S>> for Gather {
-    ghost use Rattle.cqs_views.specs.Views.{joined, spent};
+    ghost use Rattle.cqs_rule_laws.specs.Views.{joined, spent};
 
     ghost both = { joined };
+
+    ghost spent = { spent };
+}
+
+/// A note of what a pass has seen is cut off its view, which stays as it is.
+pub(crate) struct Noting;
+
+impl<E, S> Split<View<E, S>> for Noting {
+    ghost use Rattle.cqs_rule_laws.specs.Views.{note_of};
+
+    ghost left = { λ v. v };
+
+    ghost right = { note_of };
+}
+
+/// A view takes in a note.
+pub(crate) struct Hearing;
+
+impl<E, S> Join<View<E, S>> for Hearing {
+    ghost use Rattle.cqs_rule_laws.specs.Views.{with_note, spent};
+
+    ghost both = { with_note };
 
     ghost spent = { spent };
 }

@@ -1,10 +1,11 @@
 //! The queue, and the passes that callers make its steps with.
 
 ghost use Rattle.std.specs.Prelude.{◌≡◌, ◌+◌, ◌<◌, ◌≤◌, ◌^◌, length, None};
-ghost use Rattle.cqs_views.specs.Inside.{IsInside};
-ghost use Rattle.cqs_views.specs.Layout.{words_for};
-ghost use Rattle.cqs_views.specs.Facts.{is_owing};
+ghost use Rattle.cqs_rule_laws.specs.Inside.{IsInside};
+ghost use Rattle.cqs_rule_laws.specs.Layout.{words_for};
+ghost use Rattle.cqs_rule_laws.specs.Facts.{is_owing};
 
+mod histories;
 mod opening;
 mod parked;
 mod parking;
@@ -17,7 +18,7 @@ mod tokens;
 mod words;
 
 use atomic_table::{Seat, Table};
-use cqs_views::{CancelMode, ClientWords, Key, Rule, View};
+use cqs_rule_laws::{CancelMode, ClientWords, Key, Rule, View};
 use parked::Parked;
 pub(crate) use slots::Numbered;
 use std::alloc::Global;

@@ -3,18 +3,18 @@
 use Rattle.std.proofs.Common.{◌≡◌, ℕ, suc, ◌+◌, ◌≤◌, List, [], ◌∷◌, ◌++◌, length, Option, Some, None, sym, refl, ap, ◌∙◌, subst, inl, append_assoc, length-append, arith}
 use Rattle.cqs_core.specs.QueueSteps.{QueueStep, row_of, CellRow, StepRow, at_counter, at_cell, payload_told, installs}
 use Rattle.cqs_words.specs.declared.cell.CellState.{CellState}
-use Rattle.cqs_views.specs.declared.view.Facts.{Facts}
-use Rattle.cqs_views.specs.declared.view.Glimpse.{Glimpse}
-use Rattle.cqs_views.specs.declared.view.Sighting.{Sighting}
-use Rattle.cqs_views.specs.declared.view.Sighting.TheVariants.{Cell}
-use Rattle.cqs_views.specs.declared.view.View.{View}
-use Rattle.cqs_views.specs.Exchanges.{HasCell}
-use Rattle.cqs_views.specs.Facts.{facts_worked, facts_missed}
-use Rattle.cqs_views.specs.Lists.{Has}
-use Rattle.cqs_views.specs.Object.{Object, Primitive}
-use Rattle.cqs_views.specs.Saw.{Saw, WasFound}
-use Rattle.cqs_views.proofs.Calls.{called-by, called-then, saw-then}
-use Rattle.cqs_views.proofs.Lists.{has_right}
+use Rattle.cqs_rule_laws.specs.declared.view.Facts.{Facts}
+use Rattle.cqs_rule_laws.specs.declared.view.Glimpse.{Glimpse}
+use Rattle.cqs_rule_laws.specs.declared.view.Sighting.{Sighting}
+use Rattle.cqs_rule_laws.specs.declared.view.Sighting.TheVariants.{Cell}
+use Rattle.cqs_rule_laws.specs.declared.view.View.{View}
+use Rattle.cqs_rule_laws.specs.Exchanges.{HasCell}
+use Rattle.cqs_rule_laws.specs.Facts.{facts_worked, facts_missed}
+use Rattle.cqs_rule_laws.specs.Lists.{Has}
+use Rattle.cqs_rule_laws.specs.Object.{Object, Primitive}
+use Rattle.cqs_rule_laws.specs.Saw.{Saw, WasFound}
+use Rattle.cqs_rule_laws.proofs.Calls.{called-by, called-then, saw-then}
+use Rattle.cqs_rule_laws.proofs.Lists.{has_right}
 use Rattle.cqs_cell.specs.Transitions.{facts_since, Made, MadeBy, Missed, MissedBy}
 use Rattle.cqs_find.specs.Finds.{longest_search, facts_searched, Searched}
 use Rattle.cqs_suspend.specs.Suspends.{facts_drawn, cell_found, told_by, draw_entries, end_entries, Ended, EndedBy}

@@ -1,5 +1,12 @@
-//! Suspending: a pass draws a number and waits in its cell, or takes the value that stands there.
-//! It comes from the door, or it is idle, by what its client's passes do.
+//! Suspending: how a caller comes to wait. A pass draws a number, and waits in its cell or takes
+//! the value that stands there.
+//!
+//! ```text
+//!  at the door, or idle --- draws k --> cell k:  Empty -> Waiter: Waits, with the wait's token
+//!                                                Value -> Taken:  Took, since its resume was first
+//! ```
+//!
+//! A pass comes from the door (`suspend`), or it is idle where its client has no door (`enter`).
 #![tactic(auto)]
 
 mod entering;

@@ -2,15 +2,15 @@
 
 ghost use Rattle.std.specs.Prelude.{◌≡◌, ◌≤◌, false, IfOk, IsErrOf};
 ghost use mathlib.Core.Logic.{◌↔◌};
-ghost use Rattle.cqs_views.specs.Configured.{is_config};
-ghost use Rattle.cqs_views.specs.Manner.{mode_for};
+ghost use Rattle.cqs_rule_laws.specs.Configured.{is_config};
+ghost use Rattle.cqs_rule_laws.specs.Manner.{mode_for};
 ghost use Rattle.cqs_rule.specs.Passes.{pass_view, client_of, passes_of, limit_of, mode_of, slots_of, IsOf};
-ghost use Rattle.cqs_views.specs.Ruled.{cell_count};
-ghost use Rattle.cqs_views.specs.Views.{first_view};
+ghost use Rattle.cqs_rule_laws.specs.Ruled.{cell_count};
+ghost use Rattle.cqs_rule_laws.specs.Views.{first_view};
 
 use crate::queue::parked::Parked;
 use crate::queue::{Pass, Queue};
-use cqs_views::{CancelMode, ClientWords, Config, MakeError, open_table};
+use cqs_rule_laws::{CancelMode, ClientWords, Config, MakeError, open_table};
 use std::alloc::Global;
 
 impl<C: ClientWords> Queue<C> {

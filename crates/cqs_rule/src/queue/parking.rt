@@ -6,7 +6,7 @@ ghost use Rattle.cqs_rule.specs.Passes.{pass_view, IsInTable, IsOf};
 ghost use Rattle.cqs_rule.specs.Waits.{HasWait};
 
 use crate::queue::{Pass, Queue, Wait};
-use cqs_views::{ClientWords, Place};
+use cqs_rule_laws::{ClientWords, Place};
 use cqs_words::{CellState, CellWord};
 use std::sync::Wait as MayWait;
 

@@ -3,16 +3,16 @@
 ghost use Rattle.std.specs.Prelude.{◌≡◌, ◌<◌, ◌^◌};
 ghost use Rattle.cqs_core.specs.declared.doings.Doing.TheVariants.{Idle};
 ghost use Rattle.cqs_core.specs.QueueSteps.{puts};
-ghost use Rattle.cqs_views.specs.Counts.{IsDrawnAt};
-ghost use Rattle.cqs_views.specs.Lists.{Has};
-ghost use Rattle.cqs_views.specs.Manner.{Suits};
+ghost use Rattle.cqs_rule_laws.specs.Counts.{IsDrawnAt};
+ghost use Rattle.cqs_rule_laws.specs.Lists.{Has};
+ghost use Rattle.cqs_rule_laws.specs.Manner.{Suits};
 ghost use Rattle.cqs_rule.specs.Passes.{pass_view, client_of, slots_of, IsOf};
-ghost use Rattle.cqs_views.specs.SlotSteps.{LaysValue};
+ghost use Rattle.cqs_rule_laws.specs.SlotSteps.{LaysValue};
 ghost use Rattle.cqs_rule.specs.Steps.{HasPut, HasGiven};
 
 use crate::plays::Putting;
 use crate::queue::{Numbered, Pass, Queue};
-use cqs_views::{ClientWords, RESUMES_WORD, add_at};
+use cqs_rule_laws::{ClientWords, RESUMES_WORD, add_at};
 use std::marker::Brand;
 
 impl<C: ClientWords> Queue<C> {

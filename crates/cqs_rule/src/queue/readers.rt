@@ -4,7 +4,7 @@ ghost use Rattle.std.specs.Prelude.{◌≡◌};
 ghost use Rattle.cqs_rule.specs.Passes.{limit_of};
 
 use crate::queue::Queue;
-use cqs_views::ClientWords;
+use cqs_rule_laws::ClientWords;
 
 impl<C: ClientWords> Queue<C> {
     /// The limit of the suspend counter: a pass draws a number only if it saw the counter below

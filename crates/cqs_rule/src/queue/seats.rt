@@ -1,20 +1,21 @@
 //! How a pass makes another, and how two become one.
 
-ghost use Rattle.std.specs.Prelude.{◌≡◌, true, ◌+◌, ◌++◌, ◌<◌, ◌≤◌, IsTrue, IsErr, None, IfOk, IfErr, OnErr, OnOk};
+ghost use Rattle.std.specs.Prelude.{◌≡◌, ◌⊎◌, true, ◌+◌, ◌++◌, ◌<◌, ◌≤◌, IsTrue, IsErr, None, IfOk, IfErr, OnErr, OnOk};
 ghost use mathlib.Core.Logic.{◌↔◌};
 ghost use Rattle.cqs_core.specs.declared.doings.Doing.TheVariants.{Idle};
-ghost use Rattle.cqs_views.specs.Alone.{TellsAlone};
-ghost use Rattle.cqs_views.specs.Crew.{IsBetween, IsSole, MayGive, OpensNone, Tried, CameWith, Met};
-ghost use Rattle.cqs_views.specs.Layout.{words_for};
+ghost use Rattle.cqs_rule_laws.specs.Alone.{TellsAlone};
+ghost use Rattle.cqs_rule_laws.specs.Crew.{IsBetween, IsSole, MayGive, OpensNone, Tried, CameWith, Met};
+ghost use Rattle.cqs_rule_laws.specs.Layout.{words_for};
+ghost use Rattle.cqs_rule_laws.specs.Lists.{IsPrefix};
 ghost use Rattle.cqs_rule.specs.Passes.{pass_view, client_of, passes_of, IsOf};
-ghost use Rattle.cqs_views.specs.Saw.{IsLive};
+ghost use Rattle.cqs_rule_laws.specs.Saw.{IsLive};
 ghost use Rattle.cqs_rule.specs.Seats.{IsBusy, HasLookedOn, HasGiven, HasMet};
-ghost use Rattle.cqs_views.specs.Views.{made_in, live_in};
+ghost use Rattle.cqs_rule_laws.specs.Views.{made_in, live_in};
 
-use crate::plays::{Count, Cut, Gather, Gift, Make, Meet};
+use crate::plays::{Count, CountAfter, Cut, Gather, Gift, Hearing, Make, Meet, Noting};
 use crate::queue::{Pass, Queue};
 use atomic_table::Seat;
-use cqs_views::{CREW_WORD, ClientWords, Crowd, MeetError, View, add_at, exchange_at, load_at};
+use cqs_rule_laws::{CREW_WORD, ClientWords, Crowd, MeetError, View, add_at, exchange_at, load_at};
 use cqs_words::CrewWord;
 use std::marker::Brand;
 
@@ -32,6 +33,26 @@ impl<C: ClientWords> Queue<C> {
     {
         let found = load_at::<C, Count<C>>(&self.table.shared, &mut pass.seat, CREW_WORD);
         CrewWord::live_in(found) == 1
+    }
+
+    /// The pass has then seen all that the other one has seen by now. So what two passes of one
+    /// queue have seen are beginnings of one history, whether they ever meet or not. No word is
+    /// changed: one is loaded.
+    pub fn catch_up(&self, pass: &mut Pass<C>, other: &mut Pass<C>)
+        requires belongs { IsOf self.now pass.old }
+        requires other_belongs { IsOf self.now other.old }
+        ensures belongs { IsOf self.now pass.new }
+        ensures other_belongs { IsOf self.now other.new }
+        ensures looked { HasLookedOn pass.old pass.new }
+        ensures kept { (pass_view pass.old).alone ≡ true → (pass_view pass.new).alone ≡ true }
+        ensures other_stays { pass_view other.new ≡ pass_view other.old }
+        ensures all { IsPrefix (pass_view other.old).seen (pass_view pass.new).seen }
+        ensures one_history { IsPrefix (pass_view pass.old).seen (pass_view other.old).seen
+            ⊎ IsPrefix (pass_view other.old).seen (pass_view pass.old).seen }
+    {
+        let note = self.table.shared.split_seat::<Noting>(&mut other.seat);
+        self.table.shared.join_seat::<Hearing>(&mut pass.seat, note);
+        load_at::<C, CountAfter<C>>(&self.table.shared, &mut pass.seat, CREW_WORD);
     }
 
     /// The exchange by which a pass is made that gets so much of what this one holds. It answers

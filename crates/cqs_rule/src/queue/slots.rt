@@ -2,14 +2,14 @@
 
 ghost use Rattle.std.specs.Prelude.{◌≡◌, ◌⊎◌, ◌<◌, true, [], ◌∷◌, Some, None};
 ghost use Rattle.cqs_rule.specs.Passes.{pass_view, client_of, slots_of, IsOf};
-ghost use Rattle.cqs_views.specs.Slots.{laid_in};
-ghost use Rattle.cqs_views.specs.SlotSteps.{TookOut, PutBack, Swapped, HandedIn, LayIn, IsOut, IsUntouched};
+ghost use Rattle.cqs_rule_laws.specs.Slots.{laid_in};
+ghost use Rattle.cqs_rule_laws.specs.SlotSteps.{TookOut, PutBack, Swapped, HandedIn, LayIn, IsOut, IsUntouched};
 ghost use Rattle.cqs_rule.specs.Steps.{IsOpener};
 
 use crate::plays::{Filling, PuttingBack, TakingOut};
 use crate::queue::{Pass, Queue};
 use atomic_table::Seat;
-use cqs_views::{CREW_WORD, ClientWords, View, load_at};
+use cqs_rule_laws::{CREW_WORD, ClientWords, View, load_at};
 use std::marker::Brand;
 
 // The number of a slot: a call of a step on it picks it.

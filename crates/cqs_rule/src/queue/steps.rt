@@ -2,17 +2,19 @@
 
 ghost use Rattle.std.specs.Prelude.{◌≡◌, ◌+◌, ◌<◌, ◌≤◌, ◌^◌};
 ghost use Rattle.cqs_core.specs.QueueSteps.{row_of};
-ghost use Rattle.cqs_views.specs.Counts.{IsCount, PaysNoElement, IsDrawnAt};
-ghost use Rattle.cqs_views.specs.Exchanges.{IsCrossing};
-ghost use Rattle.cqs_views.specs.Kinds.{held_then, further_then, opened, closed};
-ghost use Rattle.cqs_views.specs.Loads.{LoadSuits, MayLoad};
-ghost use Rattle.cqs_views.specs.Manner.{Suits};
+ghost use Rattle.cqs_rule_laws.specs.Counts.{IsCount, PaysNoElement, IsDrawnAt};
+ghost use Rattle.cqs_rule_laws.specs.Exchanges.{IsCrossing};
+ghost use Rattle.cqs_rule_laws.specs.Kinds.{held_then, further_then, opened, closed};
+ghost use Rattle.cqs_rule_laws.specs.Loads.{LoadSuits, MayLoad};
+ghost use Rattle.cqs_rule_laws.specs.Manner.{Suits};
 ghost use Rattle.cqs_rule.specs.Passes.{pass_view, client_of, IsOf};
 ghost use Rattle.cqs_rule.specs.Steps.{HasLoaded, HasDrawn, HasCrossed};
 
 use crate::plays::{Cross, Draw, Loading};
 use crate::queue::{Pass, Queue};
-use cqs_views::{Change, ClientWords, Kind, Learned, Load, Waits, add_at, exchange_at, load_at};
+use cqs_rule_laws::{
+    Change, ClientWords, Kind, Learned, Load, Waits, add_at, exchange_at, load_at,
+};
 
 // What a pass that held this much holds after the change.
 fn held_after<C: ClientWords>(change: Change, held: u32) -> u32

@@ -1,15 +1,15 @@
 //! The tokens of a wait and of a resumption, and the readers of a pass.
 
 ghost use Rattle.std.specs.Prelude.{◌≡◌, length};
-ghost use Rattle.cqs_views.specs.Lists.{Has};
+ghost use Rattle.cqs_rule_laws.specs.Lists.{Has};
 ghost use Rattle.cqs_rule.specs.Owed.{OwesWith, IsReached, HasUnder, under_payload, under_ticket, under_reached};
 ghost use Rattle.cqs_rule.specs.Passes.{pass_view, IsOf};
-ghost use Rattle.cqs_views.specs.Placed.{KnowsPlace};
-ghost use Rattle.cqs_views.specs.Facts.{owes_any};
+ghost use Rattle.cqs_rule_laws.specs.Placed.{KnowsPlace};
+ghost use Rattle.cqs_rule_laws.specs.Facts.{owes_any};
 ghost use Rattle.cqs_rule.specs.Waits.{place_of, pass_of, HasWait};
 
 use crate::queue::{Pass, Queue};
-use cqs_views::{ClientWords, Place};
+use cqs_rule_laws::{ClientWords, Place};
 
 /// A wait in the line, for as long as its pass hasn't had its answer. It is neither copied nor
 /// cloned.

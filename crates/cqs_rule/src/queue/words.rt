@@ -1,14 +1,14 @@
 //! Single steps on the words of the client.
 
 ghost use Rattle.std.specs.Prelude.{◌≡◌, ◌<◌, bit_or, pos};
-ghost use Rattle.cqs_views.specs.Layout.{client_place};
+ghost use Rattle.cqs_rule_laws.specs.Layout.{client_place};
 ghost use Rattle.cqs_rule.specs.Passes.{IsOf};
-ghost use Rattle.cqs_views.specs.Events.{word_plus, word_after_exchange, in_any_case, where_found};
+ghost use Rattle.cqs_rule_laws.specs.Events.{word_plus, word_after_exchange, in_any_case, where_found};
 ghost use Rattle.cqs_rule.specs.Steps.{MayMove, MayKeep, MayGive, HasMoved, HasGiven};
 
 use crate::plays::{GivingAway, Show, ShowExchange};
 use crate::queue::{Numbered, Pass, Queue};
-use cqs_views::{CLIENT_WORD, ClientWords, Shown, add_at, exchange_at, load_at, or_at};
+use cqs_rule_laws::{CLIENT_WORD, ClientWords, Shown, add_at, exchange_at, load_at, or_at};
 use std::marker::Brand;
 
 // Where a word of the client stands.

@@ -1,5 +1,5 @@
 use Rattle.std.proofs.Common.{subst}
-use Rattle.cqs_views.specs.declared.config.Place.{Place}
+use Rattle.cqs_rule_laws.specs.declared.config.Place.{Place}
 use Rattle.cqs_cancel.specs.AtOnce.{HasLeftAtOnce}
 use Rattle.cqs_cancel.proofs.at_once.cancel_at_once.Goals as goal
 

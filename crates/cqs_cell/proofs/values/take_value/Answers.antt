@@ -1,6 +1,6 @@
 use Rattle.std.proofs.Common.{◌∙◌}
 use Rattle.cqs_core.specs.declared.cells.CoreState.TheVariants as state
-use Rattle.cqs_views.proofs.CellSteps.{shown-injective}
+use Rattle.cqs_rule_laws.proofs.CellSteps.{shown-injective}
 use Rattle.cqs_cell.proofs.Made.{after-miss, none-takes}
 use Rattle.cqs_cell.proofs.values.take_value.Goals as goal
 

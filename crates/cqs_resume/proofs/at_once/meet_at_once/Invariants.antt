@@ -1,7 +1,7 @@
 use Rattle.std.proofs.Common.{◌≡◌}
 use Rattle.cqs_core.specs.declared.doings.Doing.TheVariants as doing
 use Rattle.cqs_rule.specs.Passes.{pass_view, IsOf}
-use Rattle.cqs_views.specs.Placed.{KnowsPlace}
+use Rattle.cqs_rule_laws.specs.Placed.{KnowsPlace}
 use Rattle.cqs_resume.proofs.OneNumber.{Tried, turns_left}
 use Rattle.cqs_resume.proofs.at_once.meet_at_once.Given as goal
 

@@ -2,7 +2,7 @@ use Rattle.std.proofs.Common.{◌∷◌, [], Some, refl, sym, ap, ◌∙◌, sub
 use Rattle.cqs_core.specs.declared.cells.CoreState.TheVariants as state
 use Rattle.cqs_core.specs.declared.doings.Doing.TheVariants as doing
 use Rattle.cqs_core.specs.QueueSteps.{serves, leaves, delegates, passes_over, ends_refused}
-use Rattle.cqs_views.proofs.CellSteps.{shown-injective}
+use Rattle.cqs_rule_laws.proofs.CellSteps.{shown-injective}
 use Rattle.cqs_resume.proofs.OneNumber.{stays-searched, stays-missed, way-searched, tried-first, tried-next, worked-by, worked-over, worked-refused, met-by, end-serves, end-leaves, end-delegates, end-refused, end-over, ended-refused}
 use Rattle.cqs_resume.specs.declared.resumed.Resumed.TheVariants.{Refused}
 use Rattle.cqs_resume.specs.Meets.{HasMet}

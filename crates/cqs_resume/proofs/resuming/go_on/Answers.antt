@@ -2,7 +2,7 @@ use Rattle.std.proofs.Common.{◌≡◌, ◌+◌, ◌-◌, ◌∷◌, [], None, 
 use Rattle.cqs_core.specs.declared.cells.CoreState.TheVariants as state
 use Rattle.cqs_core.specs.declared.doings.Doing.TheVariants as doing
 use Rattle.cqs_core.specs.QueueSteps.{passes_over}
-use Rattle.cqs_views.specs.declared.view.Facts.{Facts}
+use Rattle.cqs_rule_laws.specs.declared.view.Facts.{Facts}
 use Rattle.cqs_rule.specs.Passes.{pass_view}
 use Rattle.cqs_resume.specs.declared.resumed.Resumed.TheVariants.{Under}
 use Rattle.cqs_resume.specs.Resumes.{Resumes}

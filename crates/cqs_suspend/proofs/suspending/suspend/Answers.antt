@@ -1,6 +1,6 @@
 use Rattle.std.proofs.Common.{ap, sym, ◌∙◌, subst}
 use Rattle.cqs_core.specs.QueueSteps.{draws, installs, takes}
-use Rattle.cqs_views.specs.Lists.{Has}
+use Rattle.cqs_rule_laws.specs.Lists.{Has}
 use Rattle.cqs_rule.specs.Passes.{pass_view}
 use Rattle.cqs_rule.proofs.Places.{knows-saw}
 use Rattle.cqs_suspend.proofs.Steps.{way-searched, way-missed-by, ends-by, ends-at, waits-here}

@@ -1,8 +1,8 @@
 use Rattle.std.proofs.Common.{rules, ◌≡◌, ◌<◌, ◌∙◌, ap, sym, subst, length, unsigned_abs}
 use Rattle.cqs_core.specs.QueueSteps.{row_of}
-use Rattle.cqs_views.specs.Kinds.{change_of, further_then}
-use Rattle.cqs_views.specs.Layout.{words_for}
-use Rattle.cqs_views.proofs.Counters.{count, counter-low}
+use Rattle.cqs_rule_laws.specs.Kinds.{change_of, further_then}
+use Rattle.cqs_rule_laws.specs.Layout.{words_for}
+use Rattle.cqs_rule_laws.proofs.Counters.{count, counter-low}
 use Rattle.cqs_rule.proofs.Numbers.{draws}
 use Rattle.cqs_rule.proofs.queue.Queue.add_table.Goals as goal
 

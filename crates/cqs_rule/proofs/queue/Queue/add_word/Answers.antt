@@ -1,7 +1,7 @@
 use Rattle.std.proofs.Common.{rules, ◌+◌, ◌%◌, ◌^◌, ◌≡◌, ◌∙◌, ap, w64, sym}
 use Rattle.std.specs.Int.{cast_unsigned}
-use Rattle.cqs_views.specs.Events.{in_any_case}
-use Rattle.cqs_views.proofs.Moves.{moves-at}
+use Rattle.cqs_rule_laws.specs.Events.{in_any_case}
+use Rattle.cqs_rule_laws.proofs.Moves.{moves-at}
 use Rattle.cqs_rule.proofs.Words.{raised}
 use Rattle.cqs_rule.proofs.Fitting.{word-inside, moved-word}
 use Rattle.cqs_rule.proofs.Moved.{keeps-moved}

@@ -1,11 +1,11 @@
 use Rattle.std.proofs.Common.{◌≡◌, ◌∙◌, ◌<◌, ap, sym, subst, length, Some}
 use mathlib.Core.Logic.{inr}
-use Rattle.cqs_views.specs.declared.view.View.{View}
-use Rattle.cqs_views.specs.Facts.{is_owing}
-use Rattle.cqs_views.specs.Layout.{words_for}
-use Rattle.cqs_views.specs.Slots.{laid_in}
-use Rattle.cqs_views.proofs.Swaps.{inside-swapped, live-swapped, alone-swapped}
-use Rattle.cqs_views.proofs.Tries.{none-slots}
+use Rattle.cqs_rule_laws.specs.declared.view.View.{View}
+use Rattle.cqs_rule_laws.specs.Facts.{is_owing}
+use Rattle.cqs_rule_laws.specs.Layout.{words_for}
+use Rattle.cqs_rule_laws.specs.Slots.{laid_in}
+use Rattle.cqs_rule_laws.proofs.Swaps.{inside-swapped, live-swapped, alone-swapped}
+use Rattle.cqs_rule_laws.proofs.Tries.{none-slots}
 use Rattle.cqs_rule.proofs.Slots.{fill-by, only-by, handed-by}
 use Rattle.cqs_rule.proofs.queue.Queue.fill_slot.Goals as goal
 

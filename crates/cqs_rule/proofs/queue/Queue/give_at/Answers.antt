@@ -1,8 +1,8 @@
 use Rattle.std.proofs.Common.{◌≡◌, ◌+◌, ◌%◌, ◌^◌, Some, ap, subst, sym, ◌∙◌}
-use Rattle.cqs_views.specs.Events.{in_any_case}
-use Rattle.cqs_views.specs.SlotSteps.{GivesAway, HandedIn}
-use Rattle.cqs_views.specs.Slots.{laid_in}
-use Rattle.cqs_views.proofs.Giving.{gives-at}
+use Rattle.cqs_rule_laws.specs.Events.{in_any_case}
+use Rattle.cqs_rule_laws.specs.SlotSteps.{GivesAway, HandedIn}
+use Rattle.cqs_rule_laws.specs.Slots.{laid_in}
+use Rattle.cqs_rule_laws.proofs.Giving.{gives-at}
 use Rattle.cqs_rule.proofs.Fitting.{word-inside, moved-word}
 use Rattle.cqs_rule.proofs.Moved.{keeps-moved}
 use Rattle.cqs_rule.proofs.queue.Queue.give_at.Goals as goal

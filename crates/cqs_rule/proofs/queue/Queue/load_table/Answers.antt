@@ -1,7 +1,7 @@
 use Rattle.std.proofs.Common.{rules, refl, ◌<◌, ◌∙◌, ap, sym, subst, length, arith}
-use Rattle.cqs_views.specs.Layout.{words_for}
-use Rattle.cqs_views.specs.Loads.{CarriesLearned}
-use Rattle.cqs_views.proofs.CellLoads.{loads, load-low}
+use Rattle.cqs_rule_laws.specs.Layout.{words_for}
+use Rattle.cqs_rule_laws.specs.Loads.{CarriesLearned}
+use Rattle.cqs_rule_laws.proofs.CellLoads.{loads, load-low}
 use Rattle.cqs_rule.proofs.queue.Queue.load_table.Goals as goal
 
 pub load_at-found-requires-clause-inside : goal.load_at-found-requires-clause-inside

@@ -1,7 +1,7 @@
 use Rattle.std.proofs.Common.{ap, arith, subst, sym}
-use Rattle.cqs_views.proofs.CrewSplits.{makes-to}
+use Rattle.cqs_rule_laws.proofs.CrewSplits.{makes-to}
 use Rattle.cqs_rule.proofs.queue.Queue.make.Goals as goal
-use Rattle.cqs_views.specs.Crew.{MayGive, Tried}
+use Rattle.cqs_rule_laws.specs.Crew.{MayGive, Tried}
 
 pub exchange_at-requires-clause-table : goal.exchange_at-requires-clause-table
 exchange_at-requires-clause-table g c = c.requires.table

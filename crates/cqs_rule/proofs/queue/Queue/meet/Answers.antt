@@ -1,6 +1,6 @@
 use Rattle.std.proofs.Common.{rules, ◌≡◌, ◌+◌, ◌<◌, ◌∙◌, [], ap, sym, arith}
-use Rattle.cqs_views.proofs.CrewMeets.{joins, meets}
-use Rattle.cqs_views.proofs.Tries.{between-idle, none-of, none-slots, joined-idles}
+use Rattle.cqs_rule_laws.proofs.CrewMeets.{joins, meets}
+use Rattle.cqs_rule_laws.proofs.Tries.{between-idle, none-of, none-slots, joined-idles}
 use Rattle.cqs_rule.proofs.Gathered.{gathers, items-as, keeps-met, held-met}
 use Rattle.cqs_rule.proofs.Looked.{crew-inside}
 use Rattle.cqs_rule.proofs.queue.Queue.meet.Goals as goal

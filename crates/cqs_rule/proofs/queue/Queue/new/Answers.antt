@@ -1,11 +1,11 @@
 use Rattle.std.proofs.Common.{◌≡◌, ◌∙◌, ◌<◌, ◌≤◌, ℕ, true, ap, sym, subst, length, arith}
-use Rattle.cqs_views.specs.declared.config.Config.{Config}
-use Rattle.cqs_views.specs.declared.view.View.{View}
-use Rattle.cqs_views.specs.Configured.{is_config}
-use Rattle.cqs_views.specs.Facts.{is_owing}
-use Rattle.cqs_views.specs.Layout.{words_for}
-use Rattle.cqs_views.specs.Ruled.{cell_count}
-use Rattle.cqs_views.proofs.Opens.{config-bounds}
+use Rattle.cqs_rule_laws.specs.declared.config.Config.{Config}
+use Rattle.cqs_rule_laws.specs.declared.view.View.{View}
+use Rattle.cqs_rule_laws.specs.Configured.{is_config}
+use Rattle.cqs_rule_laws.specs.Facts.{is_owing}
+use Rattle.cqs_rule_laws.specs.Layout.{words_for}
+use Rattle.cqs_rule_laws.specs.Ruled.{cell_count}
+use Rattle.cqs_rule_laws.proofs.Opens.{config-bounds}
 use Rattle.cqs_rule.proofs.queue.Queue.new.Goals as goal
 
 few-cells : (config : Config) (values : ℕ) → is_config config ≡ true → values ≤ 4096

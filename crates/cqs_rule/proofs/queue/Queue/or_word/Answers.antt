@@ -1,6 +1,6 @@
 use Rattle.std.proofs.Common.{refl, bit_or, ap, sym, ◌∙◌}
-use Rattle.cqs_views.specs.Events.{in_any_case}
-use Rattle.cqs_views.proofs.Moves.{moves-at}
+use Rattle.cqs_rule_laws.specs.Events.{in_any_case}
+use Rattle.cqs_rule_laws.proofs.Moves.{moves-at}
 use Rattle.cqs_rule.proofs.Fitting.{word-inside, moved-word}
 use Rattle.cqs_rule.proofs.Moved.{keeps-moved}
 use Rattle.cqs_rule.proofs.queue.Queue.or_word.Goals as goal

@@ -1,7 +1,7 @@
 use Rattle.std.proofs.Common.{rules, ◌<◌, ◌∙◌, ap, sym, subst, length, arith}
-use Rattle.cqs_views.specs.Layout.{words_for}
-use Rattle.cqs_views.proofs.CellPlaces.{resumes-inside}
-use Rattle.cqs_views.proofs.Putting.{MayPut, put}
+use Rattle.cqs_rule_laws.specs.Layout.{words_for}
+use Rattle.cqs_rule_laws.proofs.CellPlaces.{resumes-inside}
+use Rattle.cqs_rule_laws.proofs.Putting.{MayPut, put}
 use Rattle.cqs_rule.proofs.queue.Queue.put_at.Goals as goal
 
 pub add_at-found-requires-clause-inside : goal.add_at-found-requires-clause-inside

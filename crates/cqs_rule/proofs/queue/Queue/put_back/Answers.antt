@@ -1,5 +1,5 @@
 use Rattle.std.proofs.Common.{◌∙◌, [], ◌∷◌, ap, subst, arith, Some}
-use Rattle.cqs_views.proofs.Swaps.{puts-back}
+use Rattle.cqs_rule_laws.proofs.Swaps.{puts-back}
 use Rattle.cqs_rule.proofs.queue.Queue.put_back.Goals as goal
 
 pub load_at-requires-clause-allowed : goal.load_at-requires-clause-allowed

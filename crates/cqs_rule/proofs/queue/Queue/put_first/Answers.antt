@@ -1,6 +1,6 @@
 use Rattle.std.proofs.Common.{◌≡◌, ◌∙◌, [], ◌∷◌, ap, subst, arith, Some, None}
-use Rattle.cqs_views.specs.Slots.{laid_in}
-use Rattle.cqs_views.proofs.Swaps.{fills}
+use Rattle.cqs_rule_laws.specs.Slots.{laid_in}
+use Rattle.cqs_rule_laws.proofs.Swaps.{fills}
 use Rattle.cqs_rule.proofs.queue.Queue.put_first.Goals as goal
 
 pub load_at-requires-clause-allowed : goal.load_at-requires-clause-allowed

@@ -1,7 +1,7 @@
 use Rattle.std.proofs.Common.{◌∙◌}
-use Rattle.cqs_views.specs.Crew.{IsSole}
-use Rattle.cqs_views.proofs.CrewLooks.{counts}
-use Rattle.cqs_views.proofs.Tries.{sole-tells}
+use Rattle.cqs_rule_laws.specs.Crew.{IsSole}
+use Rattle.cqs_rule_laws.proofs.CrewLooks.{counts}
+use Rattle.cqs_rule_laws.proofs.Tries.{sole-tells}
 use Rattle.cqs_rule.proofs.Looked.{crew-inside, keeps-looked}
 use Rattle.cqs_rule.proofs.queue.Queue.sole.Goals as goal
 

@@ -1,11 +1,11 @@
 use Rattle.std.proofs.Common.{rules, [], ◌<◌, ◌∙◌, sym, refl, ap, subst, arith, true≢false}
-use Rattle.cqs_views.specs.Crew.{IsSole, MayGive}
-use Rattle.cqs_views.specs.Saw.{Saw}
-use Rattle.cqs_views.specs.Views.{crew_turn, facts_lessened, as_before}
-use Rattle.cqs_views.proofs.Alone.{not-alone}
-use Rattle.cqs_views.proofs.CrewLooks.{counts}
-use Rattle.cqs_views.proofs.CrewSplits.{splits}
-use Rattle.cqs_views.proofs.Tries.{sole-tells, tries-first, tries-again, cut-leaves, cut-begins, le-by}
+use Rattle.cqs_rule_laws.specs.Crew.{IsSole, MayGive}
+use Rattle.cqs_rule_laws.specs.Saw.{Saw}
+use Rattle.cqs_rule_laws.specs.Views.{crew_turn, facts_lessened, as_before}
+use Rattle.cqs_rule_laws.proofs.Alone.{not-alone}
+use Rattle.cqs_rule_laws.proofs.CrewLooks.{counts}
+use Rattle.cqs_rule_laws.proofs.CrewSplits.{splits}
+use Rattle.cqs_rule_laws.proofs.Tries.{sole-tells, tries-first, tries-again, cut-leaves, cut-begins, le-by}
 use Rattle.cqs_rule.proofs.Halved.{room-left, gives-few, gives-held, keeps-cut, keeps-begun}
 use Rattle.cqs_rule.proofs.Looked.{crew-inside, keeps-looked}
 use Rattle.cqs_rule.proofs.queue.Queue.split.Goals as goal

@@ -1,7 +1,7 @@
 use Rattle.std.proofs.Common.{◌-◌}
 use Rattle.cqs_rule.specs.Passes.{IsOf}
-use Rattle.cqs_views.specs.Views.{crew_turn}
-use Rattle.cqs_views.proofs.Tries.{Tries}
+use Rattle.cqs_rule_laws.specs.Views.{crew_turn}
+use Rattle.cqs_rule_laws.proofs.Tries.{Tries}
 use Rattle.cqs_rule.proofs.queue.Queue.split.Given as goal
 
 abbrev pub invariant-loop-pass : goal.invariant-loop-pass

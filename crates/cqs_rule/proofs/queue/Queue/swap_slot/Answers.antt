@@ -1,10 +1,10 @@
 use Rattle.std.proofs.Common.{◌≡◌, ◌∙◌, ◌<◌, ap, sym, subst, length}
 use mathlib.Core.Logic.{inl}
-use Rattle.cqs_views.specs.declared.view.View.{View}
-use Rattle.cqs_views.specs.Facts.{is_owing}
-use Rattle.cqs_views.specs.Layout.{words_for}
-use Rattle.cqs_views.proofs.Swaps.{inside-swapped, live-swapped, alone-swapped}
-use Rattle.cqs_views.proofs.Tries.{none-slots}
+use Rattle.cqs_rule_laws.specs.declared.view.View.{View}
+use Rattle.cqs_rule_laws.specs.Facts.{is_owing}
+use Rattle.cqs_rule_laws.specs.Layout.{words_for}
+use Rattle.cqs_rule_laws.proofs.Swaps.{inside-swapped, live-swapped, alone-swapped}
+use Rattle.cqs_rule_laws.proofs.Tries.{none-slots}
 use Rattle.cqs_rule.proofs.Slots.{swap-by, only-by, lay-by}
 use Rattle.cqs_rule.proofs.queue.Queue.swap_slot.Goals as goal
 

@@ -1,9 +1,9 @@
 use Rattle.std.proofs.Common.{rules, refl, ◌<◌, ◌^◌, ap, sym, ◌∙◌, ◌+◌, ◌≡◌, length, subst, arith}
-use Rattle.cqs_views.proofs.CellSteps.{cross, crossing-low}
-use Rattle.cqs_views.specs.Kinds.{change_of, held_then, further_then, opened, closed}
+use Rattle.cqs_rule_laws.proofs.CellSteps.{cross, crossing-low}
+use Rattle.cqs_rule_laws.specs.Kinds.{change_of, held_then, further_then, opened, closed}
 use Rattle.cqs_core.specs.QueueSteps.{row_of}
-use Rattle.cqs_views.specs.Facts.{is_owing}
-use Rattle.cqs_views.specs.Layout.{words_for}
+use Rattle.cqs_rule_laws.specs.Facts.{is_owing}
+use Rattle.cqs_rule_laws.specs.Layout.{words_for}
 use Rattle.cqs_words.specs.Cell.{index_in}
 use Rattle.cqs_rule.proofs.Crossed.{same-made, stays-missed}
 use Rattle.cqs_rule.proofs.queue.Queue.swap_table.Goals as goal

@@ -1,7 +1,7 @@
 use Rattle.std.proofs.Common.{refl, ap, sym, ◌∙◌, ◌==◌}
 use prog.Atomic.{either}
-use Rattle.cqs_views.specs.Events.{where_found}
-use Rattle.cqs_views.proofs.Moves.{moves-at}
+use Rattle.cqs_rule_laws.specs.Events.{where_found}
+use Rattle.cqs_rule_laws.proofs.Moves.{moves-at}
 use Rattle.cqs_rule.proofs.Fitting.{word-inside, moved-word}
 use Rattle.cqs_rule.proofs.Moved.{keeps-moved}
 use Rattle.cqs_rule.proofs.queue.Queue.swap_word.Goals as goal

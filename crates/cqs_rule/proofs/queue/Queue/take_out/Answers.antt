@@ -1,5 +1,5 @@
 use Rattle.std.proofs.Common.{◌⊎◌, ◌≡◌, true, subst, arith}
-use Rattle.cqs_views.proofs.Swaps.{takes-out}
+use Rattle.cqs_rule_laws.proofs.Swaps.{takes-out}
 use Rattle.cqs_rule.proofs.queue.Queue.take_out.Goals as goal
 
 pub load_at-requires-clause-allowed : goal.load_at-requires-clause-allowed

@@ -1,0 +1,145 @@
+-- What a resumption leaves of its pass where it shows no entry but that of its last step: it ended at a cell, or was
+-- handed back.
+use Rattle.std.proofs.Common.{◌≡◌, ℕ, ◌+◌, ◌≤◌, Bool, true, false, List, [], ◌∷◌, ◌++◌, length, Option, Some, sym, ap, ◌∙◌, subst, append_assoc, arith}
+use Rattle.std.proofs.lemmas.List.{append-nil}
+use Rattle.cqs_core.specs.declared.cells.CoreState.{CoreState}
+use Rattle.cqs_core.specs.declared.doings.Doing.TheVariants as doing
+use Rattle.cqs_core.specs.QueueSteps.{QueueStep, reaches, passes_over}
+use Rattle.cqs_rule.specs.declared.queue.tokens.Under.{Under}
+use Rattle.cqs_rule.specs.Owed.{under_reached}
+use Rattle.cqs_rule_laws.specs.declared.view.Facts.{Facts}
+use Rattle.cqs_rule_laws.specs.declared.view.Sighting.{Sighting}
+use Rattle.cqs_rule_laws.specs.declared.view.Sighting.TheVariants.{Cell}
+use Rattle.cqs_rule_laws.specs.declared.view.View.{View}
+use Rattle.cqs_rule_laws.specs.Called.{Called}
+use Rattle.cqs_rule_laws.specs.Causes.{cell_of, CellWas}
+use Rattle.cqs_rule_laws.specs.Exchanges.{FoundCell, HasCell}
+use Rattle.cqs_rule_laws.specs.Object.{Object, Primitive}
+use Rattle.cqs_rule_laws.specs.Saw.{WasFound}
+use Rattle.cqs_rule_laws.proofs.Causes.{Onward}
+use Rattle.cqs_rule_laws.proofs.Prefixes.{called-prefix}
+use Rattle.cqs_resume.specs.Resumes.{Ended, Stopped}
+use Rattle.cqs_resume.specs.Rounds.{Round, IsOpenedWith, draw_entries, round_entries, over_entries, draw_seen, round_seen, all_seen, drawn_in, one_if, numbers}
+
+-- what the last round found is last of all that was found
+seen-last : (over : List Round) (last : Round)
+    → (earlier : List Sighting) × (all_seen (over ++ last ∷ []) ≡ earlier ++ Cell last.number last.word ∷ [])
+seen-last [] last = (
+  draw_seen last.drawn last.number ++ last.tried,
+  append-nil _ ∙ sym (append_assoc (draw_seen last.drawn last.number) last.tried (Cell last.number last.word ∷ [])),
+)
+seen-last (r ∷ over) last =
+    let later = seen-last over last in (
+      round_seen r ++ later.0,
+      ap (λ l. round_seen r ++ l) later.1 ∙ sym (append_assoc (round_seen r) later.0 _),
+    )
+
+-- each number that was drawn is one of those that were passed over, and so is one whose ticket was open
+one-few : (b : Bool) → one_if b ≤ 1
+one-few true = omega arith
+one-few false = omega arith
+
+pub drawn-few : (over : List Round) → drawn_in over ≤ length (numbers over)
+drawn-few [] = omega arith
+drawn-few (r ∷ over) = let first = one-few r.drawn in let later = drawn-few over in omega arith
+
+pub opened-few : (k : ℕ) (over : List Round) → IsOpenedWith (Some k) over → drawn_in over + 1 ≤ length (numbers over)
+opened-few k [] opens = absurd opens
+opened-few k (r ∷ over) opens =
+    let none : one_if r.drawn ≡ 0 = ap one_if opens.1 in let later = drawn-few over in omega arith
+
+-- The object shows no entry where a number is drawn for a resumption that is owed, nor where its cell is passed over.
+pub record IsQuiet {E : Type 0} (object : Object E) : Type 0 where
+  pub drawing : (p k payload : ℕ) → object.entries reaches p k payload ≡ []
+  pub passing : (p k payload : ℕ) → object.entries passes_over p k payload ≡ []
+
+module _ {E : Type 0} (object : Object E) (quiet : IsQuiet object) where
+  draw-none : (p payload : ℕ) (drawn : Bool) (k : ℕ) → draw_entries object p payload drawn k ≡ []
+  draw-none p payload true k = quiet.drawing p k payload
+  draw-none p payload false k = λ i. []
+
+  over-none : (p payload : ℕ) (over : List Round) → over_entries object p payload over ≡ []
+  over-none p payload [] = λ i. []
+  over-none p payload (r ∷ over) =
+      λ i. (draw-none p payload r.drawn r.number i ++ quiet.passing p r.number payload i) ++ over-none p payload over i
+
+  entries-last : (p payload k : ℕ) (s : QueueStep) (over : List Round) (last : Round) → last.number ≡ k
+      → over_entries object p payload over ++ round_entries object p payload s last ≡ object.entries s p k payload
+  entries-last p payload k s over last is =
+      λ i. over-none p payload over i
+      ++ (draw-none p payload last.drawn last.number i ++ object.entries s p (is i) payload)
+
+module _ {C E S : Type 0} (object : Object E) (primitive : C → Primitive E S) (quiet : IsQuiet object) where
+  -- It ended at the cell of the number k, which was found in this state before these entries, and passed over these
+  -- numbers.
+  pub record EndedAt (at : CoreState) (k : ℕ) (own : List E) (over : List ℕ) (u w : View E S) : Type 0 where
+    pub called : Called object u own own w
+    pub onward : Onward u w
+    pub cell : CellWas primitive at k own w
+    pub idle : w.facts.doing ≡ doing.Idle
+    pub has : w.facts.has ≡ u.facts.has
+    pub waits : w.facts.waits ≡ u.facts.waits
+    pub passed : w.facts.passed ≡ u.facts.passed ++ over
+
+  pub ended-at : (s : QueueStep) (at : CoreState) (most : ℕ) (ticket : Option ℕ) (payload k : ℕ) (u w : View E S)
+      → (e : Ended object primitive s at most ticket payload k u w)
+      → EndedAt at k (object.entries s u.number k payload) (numbers e.over) u w
+  ended-at s at most ticket payload k u w e =
+      let last = e.last in
+      let p = u.number in
+      let own = object.entries s p k payload in
+      let found : w.facts.found ≡ u.facts.found ++ all_seen (e.over ++ last ∷ []) =
+      ap (λ (f : Facts). f.found) e.facts_are in
+      let at_end = seen-last e.over last in
+      let called = subst (λ es. Called object u es own w) (entries-last object quiet p payload k s e.over last e.number)
+      e.called in
+      record {
+        called = called;
+        onward = record {
+          seen = called-prefix object u w _ _ called;
+          found = (_, found);
+          opening = e.called.same.opening;
+        };
+        cell = record {
+          word = last.word;
+          payload = last.payload;
+          cell = subst (λ j. FoundCell last.word (cell_of j at last.payload)) e.number e.found.cell;
+          found = (
+            u.facts.found ++ at_end.0,
+            found ∙ (ap (λ l. u.facts.found ++ l) at_end.1
+                ∙ (sym (append_assoc u.facts.found at_end.0 (Cell last.number last.word ∷ []))
+                ∙ ap (λ j. (u.facts.found ++ at_end.0) ++ Cell j last.word ∷ []) e.number)),
+          );
+          was = subst (λ j. WasFound primitive (HasCell (cell_of j at last.payload)) own w) e.number e.was;
+        };
+        idle = ap (λ (f : Facts). f.doing) e.facts_are;
+        has = ap (λ (f : Facts). f.has) e.facts_are;
+        waits = ap (λ (f : Facts). f.waits) e.facts_are;
+        passed = ap (λ (f : Facts). f.passed) e.facts_are;
+      }
+
+  -- it was handed back, and passed over these numbers
+  pub record HandedBack (over : List ℕ) (u w : View E S) : Type 0 where
+    pub called : Called object u [] [] w
+    pub onward : Onward u w
+    pub has : w.facts.has ≡ u.facts.has
+    pub waits : w.facts.waits ≡ u.facts.waits
+    pub passed : w.facts.passed ≡ u.facts.passed ++ over
+
+  pub handed-back : (most : ℕ) (ticket : Option ℕ) (payload : ℕ) (under : Under) (u w : View E S)
+      → (e : Stopped object primitive most ticket payload under u w) → HandedBack (numbers e.over) u w
+  handed-back most ticket payload under u w e = record {
+    called = subst (λ (z : List E × List E). Called object u z.0 z.1 w)
+        (λ i. (
+          over-none object quiet u.number payload e.over i,
+          quiet.passing u.number (under_reached under) payload i,
+        )) e.called;
+    onward = record {
+      seen = called-prefix object u w _ _ e.called;
+      found = (_, ap (λ (f : Facts). f.found) e.facts_are);
+      opening = e.called.same.opening;
+    };
+    has = ap (λ (f : Facts). f.has) e.facts_are;
+    waits = ap (λ (f : Facts). f.waits) e.facts_are;
+    passed = ap (λ (f : Facts). f.passed) e.facts_are;
+  }

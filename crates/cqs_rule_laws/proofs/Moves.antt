@@ -1,0 +1,217 @@
+-- A step on a word of the client, once for every event: what the client owes for it keeps the rule, and tells the pass
+-- the event.
+use Rattle.std.proofs.Common.{◌≡◌, ℕ, ◌+◌, ◌<◌, ◌^◌, Bool, true, List, ◌++◌, length, ⊎_elim, sym, refl, ap, ◌∙◌, subst, arith, Option, Some, None, ◌-◌, ◌≤◌, false, if◌then◌else◌}
+use Rattle.std.specs.Prelude.{slice_index, slice_set}
+use Rattle.std.proofs.lemmas.List.{length-set}
+use Rattle.std.proofs.lemmas.Option.{same_Some}
+use mathlib.Core.Option.{some}
+use lib.ListN.{get_elem?}
+use Rattle.atomic_table.specs.Table.{State, Me, keeps, stepped, Allows}
+use Rattle.cqs_core.specs.declared.doings.Doing.TheVariants as doing
+use Rattle.cqs_core.proofs.Places.{get-set_here, get-set_else}
+use Rattle.cqs_rule_laws.specs.declared.view.View.{View}
+use Rattle.cqs_rule_laws.specs.declared.view.Facts.{Facts}
+use Rattle.cqs_rule_laws.specs.declared.view.Opening.{Opening}
+use Rattle.cqs_rule_laws.specs.Client.{IsClient}
+use Rattle.cqs_rule_laws.specs.Events.{Moment, Event, moment, has_then, facts_moved, HasWord, Moved, Moves, SlotsStay, IsShort}
+use Rattle.cqs_rule_laws.specs.Facts.{is_owing, IsBehind}
+use Rattle.cqs_rule_laws.specs.Hidden.{Hidden, stands_at}
+use Rattle.cqs_rule_laws.specs.Layout.{client_words, client_place}
+use Rattle.cqs_rule_laws.specs.Lists as lists
+use Rattle.cqs_rule_laws.specs.Object.{Object, Primitive}
+use Rattle.cqs_rule_laws.specs.Ruled.{Ruled, Stands, IsSince, cell_count}
+use Rattle.cqs_rule_laws.specs.Saw.{Saw, IsLive, WasFound}
+use Rattle.cqs_rule_laws.specs.Views.{grown}
+use Rattle.cqs_rule_laws.proofs.CellPlaces.{behind-client, client-inside}
+use Rattle.cqs_rule_laws.proofs.Advance.{Turned}
+use Rattle.cqs_rule_laws.proofs.Drawing.{draws-word}
+use Rattle.cqs_rule_laws.proofs.Shelves.{never-open}
+use Rattle.cqs_rule_laws.proofs.Lines.{line-flat}
+use Rattle.cqs_rule_laws.proofs.Others.{others-moved, door-keeps}
+use Rattle.cqs_slots.proofs.Loads.{later-same}
+use Rattle.cqs_rule_laws.proofs.Tells.{steps, suspends-low, resumes-low}
+use Rattle.cqs_rule_laws.proofs.Words.{crew-else, counters-else, cells-else, idle-else, client-at, client-set}
+
+-- two of the client's words at one place are one
+one-word : (i j : ℕ) → client_place i ≡ client_place j → i ≡ j
+one-word i j same = omega arith
+
+-- what is kept or goes is no more than it was
+kept-low : (b : Bool) (n m : ℕ) → n ≤ m → (if b then n else 0) ≤ m
+kept-low true n m low = low
+kept-low false n m low = omega arith
+
+-- a pass stands where an event of its own leaves it
+stands-moved : (c : Hidden) (p : ℕ) (facts after : Facts) → after.may_draw ≡ facts.may_draw → after.waits ≡ facts.waits
+    → after.last ≡ None → IsBehind c.queue.resumes after → Stands c p facts
+    → Stands (stands_at c p after.doing after.has) p after
+stands-moved c p facts after may waits last behind at = record {
+  doing = get-set_here c.queue.doing p facts.doing after.doing at.doing;
+  has = get-set_here c.has p facts.has after.has at.has;
+  may_draw = at.may_draw ∙ ap Some (sym may);
+  waits = λ k h. let w = at.waits k (subst (lists.Has k) waits h) in record {
+    cell = w.cell;
+    there = w.there;
+    owner = w.owner;
+    drawn = w.drawn;
+    uncollected = w.uncollected;
+    installed = w.installed;
+  };
+  all_waits = λ k w. subst (lists.Has k) (sym waits) (at.all_waits k (record {
+    cell = w.cell;
+    there = w.there;
+    owner = w.owner;
+    drawn = w.drawn;
+    uncollected = w.uncollected;
+    installed = w.installed;
+  }));
+  once = subst lists.IsDistinct (sym waits) at.once;
+  last = subst (IsSince (stands_at c p after.doing after.has)) (sym last) tt;
+  behind = behind;
+}
+
+module _ {C E S : Type 0} (object : Object E) (primitive : C → Primitive E S) (passes limit : ℕ) (x : C)
+    (client : IsClient object (primitive x)) (event : Event E) (made : ℕ → Bool) where
+  -- what the step at this place tells the pass
+  abbrev pub Tells : ℕ → Me (Option S) (View E S) → ℕ → Me (Option S) (View E S) → Type 0
+  Tells place me n me' =
+      Moved object primitive event made place me.0 n me'.0 × (me'.1 ≡ me.1) × IsLive object me'.0
+
+  -- a pass that has no slot open, and keeps those that it has laid something into
+  pub record MayStep (slots : ℕ) (v : View E S) : Type 0 where
+    pub one : v.weight ≡ 1
+    pub shut : v.facts.open_slot ≡ None
+    pub stay : SlotsStay (primitive x) slots event made v
+
+  -- the rule after the step, and what the step tells: the pass has seen all that was handed in
+  pub moved : (slots id : ℕ) (me : Me (Option S) (View E S)) (i : ℕ) (f : ℕ → ℕ) → MayStep slots me.0 → i < 4
+      → Moves object (primitive x) event made me.0.number me.0.facts i f
+      → (s : State (Option S) (View E S)) (r : Ruled object (primitive x) passes limit s) → length s.homes ≡ slots
+      → get_elem? s.views id ≡ some me.0 → slice_index s.words (client_place i) < 18446744073709551616
+      → (w : View E S)
+      × Ruled object (primitive x) passes limit
+      (stepped s (client_place i) (f (slice_index s.words (client_place i))) id me.1 w keeps)
+      × Tells (client_place i) me (slice_index s.words (client_place i)) (w, me.1) × (w.handed ≡ r.handed)
+      × (w.laid ≡ me.0.laid)
+  moved slots id me i f may few law s r homes here small =
+      let one = may.one in
+      let v = me.0 in let p = v.number in let facts = v.facts in let c = r.hidden in
+      let known = r.each_view id v here (omega arith) in
+      let at = known.stands in
+      let word = client_place i in
+      let n = slice_index s.words word in
+      let words = client_words s.words in
+      let at_opening : Opening → Moment = λ o. moment o p facts made n in
+      let m : Moment = at_opening (primitive x).opening in
+      let after : Facts = facts_moved event word m in
+      let now = event.doing m in
+      let d = stands_at c p now (has_then event m) in
+      let es = event.entries m in
+      let is : slice_index words i ≡ n = client-at s.words i few in
+      let wide : (j : ℕ) → j < 4 → client_place j < length s.words =
+      λ j low.
+      let inside = client-inside j (cell_count passes limit (primitive x).values) low in
+      let long = r.cells.shows.wide in omega arith in
+      let drawn = suspends-low passes limit (primitive x).values c r.room in
+      let short : IsShort c.queue = record {
+        line = line-flat c.queue (client.sound c words r.log r.handed r.shown) drawn
+            (resumes-low passes limit (primitive x).values c r.room);
+        drawn = drawn;
+      } in
+      let t : Turned object (primitive x) passes limit s r v word (f n) d es after = record {
+        crew = crew-else s.words word (f n) (omega arith);
+        counters = counters-else c.queue d.queue s.words word (f n) (omega arith) refl refl r.counters;
+        cells = cells-else r.segments c d (cell_count passes limit (primitive x).values) s.words word (f n)
+            (behind-client i few) (λ k. refl) (λ k. refl) r.cells;
+        idle_words = idle-else s.words word (f n) (λ j is. is.client i few) r.idle_words;
+        room = record {
+          few_passes = r.room.few_passes;
+          low_limit = r.room.low_limit;
+          few_values = r.room.few_values;
+          doing = length-set c.queue.doing p now ∙ r.room.doing;
+          has = length-set c.has p (has_then event m) ∙ r.room.has;
+          may_draw = r.room.may_draw;
+          ground = r.room.ground;
+          resumes = r.room.resumes;
+        };
+        door = door-keeps c d p r.door (λ m a. get-set_else c.queue.doing p m now (λ e. a (sym e))) (λ m a. refl)
+            (λ at_door. let mine = get-set_here c.queue.doing p facts.doing now at.doing in
+            let door : now ≡ doing.Door = same_Some now doing.Door (sym mine ∙ at_door) in
+            ⊎_elim
+            (λ (there : facts.doing ≡ doing.Door). r.door p (at.doing ∙ ap Some there))
+            (λ (may : facts.may_draw ≡ true). at.may_draw ∙ ap Some may)
+            (law.door n door));
+        shown = subst (λ (ws : List ℕ). (primitive x).shows d ws (r.log ++ es) r.handed)
+            (sym (client-set s.words i (f n) few wide))
+            (subst (λ z. (primitive x).shows
+            (stands_at c p (event.doing (moment (primitive x).opening p facts made z))
+            (has_then event (moment (primitive x).opening p facts made z)))
+            (slice_set words i (f z))
+            (r.log ++ event.entries (moment (primitive x).opening p facts made z)) r.handed) is
+            (law.step c words r.log r.handed r.shown at.doing at.has short (subst (λ z. z < 2 ^ 64) (sym is) small)));
+        others = others-moved c p now (has_then event m);
+        self = stands-moved c p facts after refl refl refl
+            (record {
+              reached = kept-low (is_owing facts.doing) facts.reached c.queue.resumes at.behind.reached;
+              passed = at.behind.passed;
+            }) at;
+        silent = law.silent n;
+        payload_fits = law.fits n known.payload_fits;
+        slots = record {
+          open_slot = refl;
+          laid = λ k y is o. may.stay n k y (let t = r.shelf.laid id v here (omega arith) k y is in let low = t.2 in
+              omega arith) is o;
+          out = λ k is o. absurd (never-open v k may.shut is);
+        };
+        draws = ap (λ k. c.queue.resumes + k) (sym (draws-word facts.found word n (λ e. omega arith)));
+        now = r.segments;
+        later = later-same r.segments;
+        counted = r.counted;
+        same_slots = λ y. refl;
+        same_spares = refl;
+      } in
+      let done = steps object (primitive x) passes limit client s r id me word (f n) d es after here one t in
+      let w : View E S = grown v after (r.log ++ es) r.handed in (
+        w,
+        done.0,
+        (
+          record {
+            saw = subst (λ o. Saw object v (facts_moved event word (at_opening o)) (event.entries (at_opening o)) w)
+                (sym known.opening_is) done.1;
+            was = λ j same. subst (λ o. WasFound primitive (HasWord j n) (event.entries (at_opening o)) w)
+                (sym known.opening_is)
+                (record {
+                  before = r.log;
+                  seen = refl;
+                  was = record {
+                    client = x;
+                    opening_is = sym known.opening_is;
+                    hidden = c;
+                    words = words;
+                    handed = r.handed;
+                    shown = r.shown;
+                    holds = ap (slice_index words) (sym (one-word i j same)) ∙ is;
+                  };
+                });
+          },
+          refl,
+          done.2,
+        ),
+        refl,
+        refl,
+      )
+
+  pub moves : (slots id : ℕ) (me : Me (Option S) (View E S)) (i : ℕ) (f : ℕ → ℕ) → MayStep slots me.0 → i < 4
+      → Moves object (primitive x) event made me.0.number me.0.facts i f
+      → Allows (Ruled object (primitive x) passes limit) slots id me (client_place i) f (Tells (client_place i) me)
+  moves slots id me i f may few law s r homes here small =
+      let t = moved slots id me i f may few law s r homes here small in (t.0, keeps, tt, t.1, t.2)
+
+  -- the same at a word's place, by what the step computes of the word found
+  pub moves-at : (slots id : ℕ) (me : Me (Option S) (View E S)) (i place : ℕ) (f g : ℕ → ℕ) → MayStep slots me.0 → i < 4
+      → place ≡ client_place i → ((n : ℕ) → g n ≡ f n)
+      → Moves object (primitive x) event made me.0.number me.0.facts i f
+      → Allows (Ruled object (primitive x) passes limit) slots id me place g (Tells place me)
+  moves-at slots id me i place f g may few is same law =
+      subst (λ (z : ℕ × (ℕ → ℕ)). Allows (Ruled object (primitive x) passes limit) slots id me z.0 z.1 (Tells z.0 me))
+      (λ j. (sym is j, λ n. sym (same n) j)) (moves slots id me i f may few law)

@@ -1,0 +1,727 @@
+-- The steps on the words of segments: what each makes of the segments keeps the rule.
+use Rattle.std.proofs.Common.{◌≡◌, ◌≢◌, ◌⊎◌, ℕ, ◌+◌, ◌*◌, ◌<◌, ◌≤◌, List, [], ◌∷◌, ◌++◌, length, length-append, set, sym, refl, ap, ◌∙◌, subst, ⊎_elim, inl, inr, arith, eqb, eq-eqb, ne_eqb, Option}
+use Rattle.std.specs.Prelude.{slice_index, slice_set}
+use Rattle.std.proofs.lemmas.List.{append-nil}
+use prog.Atomic.{either}
+use mathlib.Core.Option.{some, none}
+use mathlib.Core.Logic.{dite}
+use native.Mathlib.Decide.{ℕ_discrete}
+use lib.ListN.{get_elem?}
+use lib.Seq.{set-get_or}
+use Rattle.atomic_table.specs.Table.{State, Me, Act, keeps, stepped, carried_after, Valid, Allows}
+use Rattle.atomic_table.proofs.Lists.{set_else}
+use Rattle.cqs_words.specs.Head.{head_word}
+use Rattle.cqs_words.specs.Segment.{segment_word}
+use Rattle.cqs_slots.specs.Layout.{tail_place, head_place, count_place, slot_cell, empty_word}
+use Rattle.cqs_slots.specs.Slots.{Segments, free, spare, fresh, live, IsHome, IsLater, slot_head}
+use Rattle.cqs_slots.specs.Shown.{Shows, AreSound, AreCells, Becomes}
+use Rattle.cqs_slots.specs.Told.{Knows, all_seen, TailFound}
+use Rattle.cqs_core.proofs.Places.{get-push_at}
+use Rattle.cqs_slots.proofs.Lists.{changed_here, home-prefix, one-home}
+use Rattle.cqs_slots.proofs.Loads as loads
+use Rattle.cqs_slots.specs.Steps.{with_slot, with_tail}
+use Rattle.cqs_slots.proofs.Claims.{claimed, claimed-is, given-back}
+use Rattle.cqs_slots.proofs.Resets.{spare-low, begun, cell-reset, count-reset}
+use Rattle.cqs_slots.proofs.Marks.{is-young, lit}
+use Rattle.cqs_slots.proofs.Extends.{extended, tail-at}
+use Rattle.cqs_rule_laws.specs.declared.view.Spare.{Spare}
+use Rattle.cqs_rule_laws.specs.declared.view.View.{View}
+use Rattle.cqs_rule_laws.specs.Hidden.{Hidden}
+use Rattle.cqs_rule_laws.specs.Layout.{slots_for}
+use Rattle.cqs_rule_laws.specs.Lists.{Has, IsDistinct, IsPrefix}
+use Rattle.cqs_rule_laws.specs.Object.{Object, Primitive}
+use Rattle.cqs_rule_laws.specs.Ruled.{Ruled, Knows as KnowsView, Stands, cell_count, word_at}
+use Rattle.cqs_rule_laws.specs.Saw.{Saw}
+use Rattle.cqs_rule_laws.specs.Segments.{KnowsSegments}
+use Rattle.cqs_rule_laws.specs.SegmentSteps.{facts_spared, CountLoaded, claimed_slot, reset_slot, Went, TailLoaded, HeadLoaded, Claimed, Began, Reset, Lit, Extended}
+use Rattle.cqs_rule_laws.specs.Spares.{slots_of, IsSpare, AreSpare, SparesHold}
+use Rattle.cqs_rule_laws.specs.Views.{weight, Tip}
+use Rattle.cqs_rule_laws.proofs.Advance.{still-apart, spent-set, still-kept}
+use Rattle.cqs_rule_laws.proofs.Lists.{set_there, one_there, set_all, total_set, has_append, has_left, has_right}
+use Rattle.cqs_rule_laws.proofs.Shelves.{keeps-all, shelf-set}
+use Rattle.cqs_rule_laws.proofs.Spares.{slots-append, are-append, are-else, are-last, is-spare, spares-set, distinct-append, distinct-last, distinct-left}
+use Rattle.cqs_rule_laws.proofs.Words.{crew-else, counters-else, idle-else, client-above}
+
+-- the view of a pass that made such a step: it knows all segments that are made
+abbrev pub went : {E S : Type 0} → View E S → Segments → List Spare → List (ℕ × ℕ) → View E S
+went v u spares heads = record v { facts = facts_spared spares heads v.facts; segments = all_seen u }
+
+module _ {E S : Type 0} (object : Object E) (primitive : Primitive E S) (passes limit : ℕ) where
+  abbrev pub R : State (Option S) (View E S) → Type 0
+  R = Ruled object primitive passes limit
+
+  abbrev pub slots : ℕ
+  slots = slots_for (cell_count passes limit primitive.values)
+
+  -- what such a step has to show: the word i becomes z, and the segments u
+  pub record Resegments (s : State (Option S) (View E S)) (r : R s) (id i z : ℕ) (v : View E S) (u : Segments)
+      (spares : List Spare) (heads : List (ℕ × ℕ)) : Type 0 where
+    pub behind : 112 ≤ i
+    pub shows : Shows slots u (word_at r.hidden) (slice_set s.words i z)
+    pub sound : AreSound slots u
+    pub later : IsLater r.segments u
+    pub made : AreCells (word_at r.hidden) u.tail
+    pub counts : (q : ℕ) → u.counted q ≡ r.segments.counted q
+    pub hold : SparesHold slots u (set s.views id (went v u spares heads))
+
+  -- what it tells
+  pub went-saw : (s : State (Option S) (View E S)) (r : R s) (id : ℕ) (v : View E S) (u : Segments)
+      (spares : List Spare) (heads : List (ℕ × ℕ)) → get_elem? s.views id ≡ some v → IsLater r.segments u
+      → Saw object v (facts_spared spares heads v.facts) [] (went v u spares heads)
+  went-saw s r id v u spares heads here later = record {
+    between = [];
+    seen = sym (append-nil (v.seen ++ []) ∙ append-nil v.seen);
+    silent = λ n h. refl;
+    facts_are = refl;
+    same = record {
+      number = refl;
+      weight = refl;
+      own = refl;
+      crew = refl;
+      alone = refl;
+      drawn = refl;
+      limit = refl;
+      cells = refl;
+      passes = refl;
+      opening = refl;
+      segments = loads.sees-all u v.segments
+          (loads.knows-later r.segments u v.segments later (r.each_segment id v here).seen);
+    };
+    handed = ([], sym (append-nil v.handed));
+    unlaid = λ j bare. bare;
+    sole = λ a. refl;
+  }
+
+  -- it keeps the rule
+  pub resegment : (s : State (Option S) (View E S)) (r : R s) (id i z : ℕ) (cs : List (ℕ × Option S)) (v : View E S)
+      (u : Segments) (spares : List Spare) (heads : List (ℕ × ℕ))
+      → get_elem? s.views id ≡ some v → v.weight ≡ 1 → Resegments s r id i z v u spares heads
+      → R (stepped s i z id cs (went v u spares heads) keeps)
+  resegment s r id i z cs v u spares heads here one t =
+      let behind = t.behind in
+      let k = r.each_view id v here (omega arith) in
+      let at = k.stands in
+      let stands : Stands r.hidden v.number (facts_spared spares heads v.facts) = record {
+        doing = at.doing;
+        has = at.has;
+        may_draw = at.may_draw;
+        waits = at.waits;
+        all_waits = at.all_waits;
+        once = at.once;
+        last = at.last;
+        behind = record { reached = at.behind.reached; passed = at.behind.passed };
+      } in
+      record {
+        hidden = r.hidden;
+        log = r.log;
+        handed = r.handed;
+        made = r.made;
+        live = r.live;
+        crew = record {
+          word = crew-else s.words i z (omega arith) ∙ r.crew.word;
+          some_made = r.crew.some_made;
+          few = r.crew.few;
+          live_few = r.crew.live_few;
+          live_is = let total = total_set weight s.views id v w here in let l = r.crew.live_is in omega arith;
+        };
+        counters = counters-else r.hidden.queue r.hidden.queue s.words i z (omega arith) refl refl r.counters;
+        segments = u;
+        cells = record {
+          shows = t.shows;
+          sound = t.sound;
+          made = t.made;
+          fits = r.cells.fits;
+          bare = r.cells.bare;
+        };
+        counted = record { counts = λ q. r.counted.counts q ∙ (let e = t.counts q in omega arith) };
+        spares = t.hold;
+        idle_words = idle-else s.words i z (λ j is e. let before = is.before in omega arith) r.idle_words;
+        room = r.room;
+        door = r.door;
+        shown = subst (λ (ws : List ℕ). primitive.shows r.hidden ws r.log r.handed)
+            (sym (client-above s.words i z (omega arith))) r.shown;
+        each_view = set_all P s.views id w
+            (λ on. record {
+              sees = record {
+                seen = k.sees.seen;
+                other = k.sees.other;
+                handed_in = k.sees.handed_in;
+                other_handed_in = k.sees.other_handed_in;
+                mine = k.sees.mine;
+                theirs = k.sees.theirs;
+              };
+              below = k.below;
+              light = k.light;
+              parted = k.parted;
+              own = k.own;
+              stands = stands;
+              resting = k.resting;
+              second = λ two. absurd (omega arith);
+              crew = k.crew;
+              alone = k.alone;
+              limit_is = k.limit_is;
+              cells_are = k.cells_are;
+              passes_are = k.passes_are;
+              opening_is = k.opening_is;
+              payload_fits = k.payload_fits;
+            })
+            (λ j x apart there on. r.each_view j x there on);
+        apart = still-apart object primitive passes limit s.views id v w here refl r.apart;
+        spent = spent-set object primitive passes limit s.views id w (omega arith) r.spent;
+        unnamed = r.unnamed;
+        kept = λ n low. still-kept object primitive passes limit s.views id v w n here refl one (r.kept n low);
+        unused = r.unused;
+        tip = tip-set r.tip;
+        shelf = shelf-set primitive.opens r.handed r.live s.homes s.views id v w here (omega arith)
+            (record { live = omega arith; laid = refl; keeps = keeps-all primitive.opens v w.facts refl (λ j o. o) })
+            r.shelf;
+        noted = set_all (λ j x. IsPrefix x.seen r.log) s.views id w (r.noted id v here)
+            (λ j x apart at. r.noted j x at);
+        each_segment = set_all (λ j x. KnowsSegments u x) s.views id w
+            (let known = r.each_segment id v here in record {
+              seen = loads.knows-all u;
+              flat = λ q low. home-prefix v.segments.homes u.homes q q
+                  (loads.knows-later r.segments u v.segments t.later known.seen).homes (known.flat q low);
+            })
+            (λ j x apart there. let known = r.each_segment j x there in record {
+              seen = loads.knows-later r.segments u x.segments t.later known.seen;
+              flat = known.flat;
+            });
+      }
+    where
+      w : View E S
+      w = went v u spares heads
+
+      P : ℕ → View E S → Type 0
+      P j x = 0 < x.weight → KnowsView object r.hidden r.log r.handed r.made r.live passes limit
+          (cell_count passes limit primitive.values) primitive.opening x
+
+      tip-set : Tip r.log s.views → Tip r.log (set s.views id w)
+      tip-set old = dite (ℕ_discrete old.place id)
+          (λ (at : old.place ≡ id).
+          let is : old.view ≡ v = one_there s.views id old.view v
+          (subst (λ j. get_elem? s.views j ≡ some old.view) at old.there) here in record {
+            place = id;
+            view = w;
+            there = set_there s.views id v w here;
+            live = omega arith;
+            sees = subst (λ (x : View E S). (x.seen ≡ r.log) ⊎ ((x.weight ≡ 2) × (x.other ≡ r.log))) is old.sees;
+          })
+          (λ (apart : old.place ≢ id). record {
+            place = old.place;
+            view = old.view;
+            there = set_else s.views id old.place w apart ∙ old.there;
+            live = old.live;
+            sees = old.sees;
+          })
+
+  -- the rule after such a step at the slot x, which made it what it is, and what it tells
+  pub segment-turn : (s : State (Option S) (View E S)) (r : R s) (id i z x : ℕ) (me : Me (Option S) (View E S))
+      (u : Segments) (spares : List Spare) (heads : List (ℕ × ℕ))
+      → get_elem? s.views id ≡ some me.0 → me.0.weight ≡ 1 → 112 ≤ i
+      → Becomes slots x r.segments u (word_at r.hidden) (slice_set s.words i z)
+      → AreCells (word_at r.hidden) u.tail → ((q : ℕ) → u.counted q ≡ r.segments.counted q)
+      → AreSpare slots u spares → IsDistinct (slots_of spares)
+      → ((y : ℕ) → Has y (slots_of spares) → Has y (slots_of me.0.facts.spare_slots)
+      ⊎ ((i a d : ℕ) → r.segments.slots y ≡ spare i a d → ⊥))
+      → ((j a d : ℕ) → r.segments.slots x ≡ spare j a d → Has x (slots_of me.0.facts.spare_slots))
+      → R (stepped s i z id me.1 (went me.0 u spares heads) keeps)
+      × Went object spares heads me.0 (went me.0 u spares heads)
+  segment-turn s r id i z x me u spares heads here one behind b made counts mine distinct claims own = (
+    resegment s r id i z me.1 me.0 u spares heads here one (record {
+      behind = behind;
+      shows = b.shows;
+      sound = b.sound;
+      later = b.later;
+      made = made;
+      counts = counts;
+      hold = spares-set slots r.segments u s.views id me.0 (went me.0 u spares heads) here mine distinct claims
+          (λ y j a d is none. b.others y (λ (e : y ≡ x). none (subst (λ m. Has m (slots_of me.0.facts.spare_slots))
+          (sym e) (own j a d (ap r.segments.slots (sym e) ∙ is))))) r.spares;
+    }),
+    went-saw s r id me.0 u spares heads here b.later,
+  )
+
+  -- a step that leaves all words
+  pub segment-look : (s : State (Option S) (View E S)) (r : R s) (id i : ℕ) (me : Me (Option S) (View E S))
+      (heads : List (ℕ × ℕ)) → get_elem? s.views id ≡ some me.0 → me.0.weight ≡ 1 → 112 ≤ i
+      → R (stepped s i (slice_index s.words i) id me.1 (went me.0 r.segments me.0.facts.spare_slots heads) keeps)
+      × Went object me.0.facts.spare_slots heads me.0 (went me.0 r.segments me.0.facts.spare_slots heads)
+  segment-look s r id i me heads here one behind =
+      let same : slice_set s.words i (slice_index s.words i) ≡ s.words = set-get_or s.words i 0 in (
+        resegment s r id i (slice_index s.words i) me.1 me.0 r.segments me.0.facts.spare_slots heads here one (record {
+          behind = behind;
+          shows = subst (Shows slots r.segments (word_at r.hidden)) (sym same) r.cells.shows;
+          sound = r.cells.sound;
+          later = loads.later-same r.segments;
+          made = r.cells.made;
+          counts = λ q. refl;
+          hold = spares-set slots r.segments r.segments s.views id me.0
+              (went me.0 r.segments me.0.facts.spare_slots heads) here (r.spares.are id me.0 here)
+              (r.spares.once id me.0 here) (λ y h. inl h) (λ y j a d is none. refl) r.spares;
+        }),
+        went-saw s r id me.0 r.segments me.0.facts.spare_slots heads here (loads.later-same r.segments),
+      )
+
+  -- what an exchange comes to
+  abbrev pub Comes : (s : State (Option S) (View E S)) (id : ℕ) (me : Me (Option S) (View E S)) (i z : ℕ)
+      → (View E S → Type 0) → Type 0
+  Comes s id me i z T = (w : View E S) × R (stepped s i z id me.1 w keeps) × T w
+
+  abbrev pub Allowed : (s : State (Option S) (View E S)) (id : ℕ) (me : Me (Option S) (View E S)) (i z : ℕ)
+      → (Me (Option S) (View E S) → Type 0) → Type 0
+  Allowed s id me i z T = (w : View E S) × (a : Act (Option S)) × Valid s.homes me.1 a
+      × R (stepped s i z id me.1 w a) × T (w, carried_after me.1 a)
+
+  pub by-exchange : (s : State (Option S) (View E S)) (id : ℕ) (me : Me (Option S) (View E S)) (i m expected new : ℕ)
+      (T : View E S → Type 0)
+      → (m ≡ expected → Comes s id me i new T) → (m ≢ expected → Comes s id me i m T)
+      → Allowed s id me i (either (eqb m expected) new m) (λ me'. T me'.0 × (me'.1 ≡ me.1))
+  by-exchange s id me i m expected new T made missed = dite (ℕ_discrete m expected)
+      (λ e. subst (λ b. Allowed s id me i (either b new m) (λ me'. T me'.0 × (me'.1 ≡ me.1)))
+      (sym (eq-eqb m expected e))
+      (let t = made e in (t.0, keeps, tt, t.1, (t.2, refl))))
+      (λ a. subst (λ b. Allowed s id me i (either b new m) (λ me'. T me'.0 × (me'.1 ≡ me.1)))
+      (sym (ne_eqb m expected a))
+      (let t = missed a in (t.0, keeps, tt, t.1, (t.2, refl))))
+
+  -- a load of the tail
+  pub loads-tail : (many id : ℕ) (me : Me (Option S) (View E S)) → me.0.weight ≡ 1
+      → Allows R many id me tail_place (λ n. n) (λ n me'. TailLoaded object me.0 n me'.0 × (me'.1 ≡ me.1))
+  loads-tail many id me one s r homes here small =
+      let t = segment-look s r id tail_place me [] here one (omega arith) in
+      let w = went me.0 r.segments me.0.facts.spare_slots [] in
+      let cells = (r.each_view id me.0 here (omega arith)).cells_are in (
+        w,
+        keeps,
+        tt,
+        t.0,
+        (
+          record {
+            found = subst (λ z. TailFound (slots_for z) (slice_index s.words tail_place) w.segments) (sym cells)
+                (loads.tail-found slots r.segments (word_at r.hidden) s.words r.cells.shows r.cells.sound w.segments
+                refl).0;
+            went = t.1;
+          },
+          refl,
+        ),
+      )
+
+  -- a load of a head
+  pub loads-head : (many id : ℕ) (me : Me (Option S) (View E S)) (x : ℕ) → me.0.weight ≡ 1 → x < slots_for me.0.cells
+      → Allows R many id me (head_place x) (λ n. n) (λ n me'. HeadLoaded object x me.0 n me'.0 × (me'.1 ≡ me.1))
+  loads-head many id me x one below s r homes here small =
+      let n = slice_index s.words (head_place x) in
+      let t = segment-look s r id (head_place x) me ((x, n) ∷ []) here one (omega arith) in
+      let w = went me.0 r.segments me.0.facts.spare_slots ((x, n) ∷ []) in
+      let cells = (r.each_view id me.0 here (omega arith)).cells_are in (
+        w,
+        keeps,
+        tt,
+        t.0,
+        (
+          record {
+            found = loads.head-found slots r.segments (word_at r.hidden) s.words r.cells.shows r.cells.sound
+                me.0.segments x (subst (λ z. x < slots_for z) cells below) (r.each_segment id me.0 here).seen;
+            went = t.1;
+          },
+          refl,
+        ),
+      )
+
+  -- a free slot is claimed, where its head still says so
+  pub claims : (many id : ℕ) (me : Me (Option S) (View E S)) (x i : ℕ) → me.0.weight ≡ 1 → x < slots_for me.0.cells
+      → Allows R many id me (head_place x) (λ n. either (eqb n (head_word i 0)) (head_word i 1) n)
+      (λ n me'. Claimed object x (head_word i 0) me.0 n me'.0 × (me'.1 ≡ me.1))
+  claims many id me x i one below s r homes here small =
+      by-exchange s id me (head_place x) n (head_word i 0) (head_word i 1)
+      (λ w. Claimed object x (head_word i 0) me.0 n w)
+      (λ e.
+      let was : t.slots x ≡ free i = claimed-is slots t (word_at c) s.words r.cells.shows r.cells.sound x low i e in
+      let u = with_slot t x (spare i 0 0) t.outs t.lit in
+      let b = claimed slots t (word_at c) s.words r.cells.shows r.cells.sound x low i e in
+      let fresh-slot : (j a d : ℕ) → t.slots x ≡ spare j a d → ⊥ = λ j a d q. not-spare i j a d (sym was ∙ q) in
+      let absent : Has x (slots_of l) → ⊥ = λ h.
+      let q = is-spare slots t l x h (r.spares.are id v here) in fresh-slot q.0 q.1 q.2 q.3 in
+      let new = segment-turn s r id (head_place x) (head_word i 1) x me u (l ++ claimed_slot x ∷ []) ((x, n) ∷ []) here
+      one (omega arith) b r.cells.made (λ q. refl)
+      (are-append slots u l (claimed_slot x ∷ [])
+      (are-else slots t u l (λ y h. b.others y (λ e'. absent (subst (λ m. Has m (slots_of l)) e' h)))
+      (r.spares.are id v here)) (
+        record {
+          low = low;
+          id = i;
+          is = changed_here t.slots x (spare i 0 0);
+          begun = λ some. absurd (omega arith);
+        },
+        tt,
+      ))
+      (subst IsDistinct (sym (slots-append l (claimed_slot x ∷ [])))
+      (distinct-append (slots_of l) (x ∷ []) (r.spares.once id v here) ((λ h. h), tt)
+      (λ y p q. ⊎_elim (λ (e' : y ≡ x). absent (subst (λ m. Has m (slots_of l)) e' p)) (λ h. h) q)))
+      (λ y h. ⊎_elim inl (λ q. ⊎_elim (λ (e' : y ≡ x). inr (λ j a d is. fresh-slot j a d (ap t.slots (sym e') ∙ is)))
+      (λ h'. absurd h') q)
+      (has_append y (slots_of l) (x ∷ []) (subst (Has y) (slots-append l (claimed_slot x ∷ [])) h)))
+      (λ j a d is. absurd (fresh-slot j a d is)) in (
+        went v u (l ++ claimed_slot x ∷ []) ((x, n) ∷ []),
+        new.0,
+        record { made = λ _. new.1; missed = λ a. absurd (a e) },
+      ))
+      (λ a.
+      let q = segment-look s r id (head_place x) me ((x, n) ∷ []) here one (omega arith) in
+      (went v t l ((x, n) ∷ []), q.0, record { made = λ e. absurd (a e); missed = λ _. q.1 }))
+    where
+      v : View E S
+      v = me.0
+
+      l : List Spare
+      l = me.0.facts.spare_slots
+
+      t : Segments
+      t = r.segments
+
+      c : Hidden
+      c = r.hidden
+
+      n : ℕ
+      n = slice_index s.words (head_place x)
+
+      low : x < slots_for (cell_count passes limit primitive.values)
+      low = subst (λ z. x < slots_for z) (r.each_view id me.0 here (omega arith)).cells_are below
+
+      not-spare : (k j a d : ℕ) → free k ≡ spare j a d → ⊥
+      not-spare k j a d q = absurd (cc)
+
+  -- a step at a slot that isn't spare, and isn't then
+  keep-turn : (s : State (Option S) (View E S)) (r : R s) (id i z x : ℕ) (me : Me (Option S) (View E S))
+      (u : Segments) (heads : List (ℕ × ℕ))
+      → get_elem? s.views id ≡ some me.0 → me.0.weight ≡ 1 → 112 ≤ i
+      → Becomes slots x r.segments u (word_at r.hidden) (slice_set s.words i z)
+      → AreCells (word_at r.hidden) u.tail → ((q : ℕ) → u.counted q ≡ r.segments.counted q)
+      → ((j a d : ℕ) → r.segments.slots x ≡ spare j a d → ⊥)
+      → R (stepped s i z id me.1 (went me.0 u me.0.facts.spare_slots heads) keeps)
+      × Went object me.0.facts.spare_slots heads me.0 (went me.0 u me.0.facts.spare_slots heads)
+  keep-turn s r id i z x me u heads here one behind b made counts no-spare =
+      let l = me.0.facts.spare_slots in
+      let old = r.spares.are id me.0 here in
+      let absent : Has x (slots_of l) → ⊥ = λ h.
+      let q = is-spare slots r.segments l x h old in no-spare q.0 q.1 q.2 q.3 in
+      segment-turn s r id i z x me u l heads here one behind b made counts
+      (are-else slots r.segments u l
+      (λ y h. b.others y (λ (e : y ≡ x). absent (subst (λ m. Has m (slots_of l)) e h))) old)
+      (r.spares.once id me.0 here) (λ y h. inl h) (λ j a d is. absurd (no-spare j a d is))
+
+  -- the pass's last spare, as the rule has it
+  last-spare : (s : State (Option S) (View E S)) (r : R s) (id : ℕ) (v : View E S) (before : List Spare) (x : Spare)
+      → get_elem? s.views id ≡ some v → v.facts.spare_slots ≡ before ++ x ∷ []
+      → AreSpare slots r.segments before × IsSpare slots r.segments x × (Has x.slot (slots_of before) → ⊥)
+  last-spare s r id v before x here is =
+      let old = subst (AreSpare slots r.segments) is (r.spares.are id v here) in
+      let parts = are-last slots r.segments before x old in (
+        parts.0,
+        parts.1,
+        distinct-last before x (subst (λ l. IsDistinct (slots_of l)) is (r.spares.once id v here)),
+      )
+
+  -- a step at the pass's last spare, which stays spare
+  spare-turn : (s : State (Option S) (View E S)) (r : R s) (id i z x a d e f : ℕ) (me : Me (Option S) (View E S))
+      (u : Segments) (before : List Spare) (heads : List (ℕ × ℕ))
+      → get_elem? s.views id ≡ some me.0 → me.0.weight ≡ 1 → 112 ≤ i
+      → me.0.facts.spare_slots ≡ before ++ reset_slot x a d ∷ []
+      → Becomes slots x r.segments u (word_at r.hidden) (slice_set s.words i z)
+      → AreCells (word_at r.hidden) u.tail → ((q : ℕ) → u.counted q ≡ r.segments.counted q)
+      → IsSpare slots u (reset_slot x e f)
+      → R (stepped s i z id me.1 (went me.0 u (before ++ reset_slot x e f ∷ []) heads) keeps)
+      × Went object (before ++ reset_slot x e f ∷ []) heads me.0 (went me.0 u (before ++ reset_slot x e f ∷ []) heads)
+  spare-turn s r id i z x a d e f me u before heads here one behind is b made counts mine =
+      let l = last-spare s r id me.0 before (reset_slot x a d) here is in
+      let same : slots_of (before ++ reset_slot x e f ∷ []) ≡ slots_of me.0.facts.spare_slots =
+      slots-append before (reset_slot x e f ∷ [])
+      ∙ sym (ap slots_of is ∙ slots-append before (reset_slot x a d ∷ [])) in
+      segment-turn s r id i z x me u (before ++ reset_slot x e f ∷ []) heads here one behind b made counts
+      (are-append slots u before (reset_slot x e f ∷ [])
+      (are-else slots r.segments u before
+      (λ y h. b.others y (λ (q : y ≡ x). l.2 (subst (λ m. Has m (slots_of before)) q h))) l.0) (mine, tt))
+      (subst IsDistinct (sym same) (r.spares.once id me.0 here))
+      (λ y h. inl (subst (Has y) same h))
+      (λ j m n _. subst (Has x) same (subst (Has x) (sym (slots-append before (reset_slot x e f ∷ [])))
+      (has_right x (slots_of before) (x ∷ []) (inl refl))))
+
+  -- and one that is none then
+  spent-turn : (s : State (Option S) (View E S)) (r : R s) (id i z x a d : ℕ) (me : Me (Option S) (View E S))
+      (u : Segments) (before : List Spare) (heads : List (ℕ × ℕ))
+      → get_elem? s.views id ≡ some me.0 → me.0.weight ≡ 1 → 112 ≤ i
+      → me.0.facts.spare_slots ≡ before ++ reset_slot x a d ∷ []
+      → Becomes slots x r.segments u (word_at r.hidden) (slice_set s.words i z)
+      → AreCells (word_at r.hidden) u.tail → ((q : ℕ) → u.counted q ≡ r.segments.counted q)
+      → R (stepped s i z id me.1 (went me.0 u before heads) keeps)
+      × Went object before heads me.0 (went me.0 u before heads)
+  spent-turn s r id i z x a d me u before heads here one behind is b made counts =
+      let l = last-spare s r id me.0 before (reset_slot x a d) here is in
+      let all : slots_of me.0.facts.spare_slots ≡ slots_of before ++ x ∷ [] =
+      ap slots_of is ∙ slots-append before (reset_slot x a d ∷ []) in
+      segment-turn s r id i z x me u before heads here one behind b made counts
+      (are-else slots r.segments u before
+      (λ y h. b.others y (λ (q : y ≡ x). l.2 (subst (λ m. Has m (slots_of before)) q h))) l.0)
+      (distinct-left (slots_of before) (x ∷ []) (subst IsDistinct all (r.spares.once id me.0 here)))
+      (λ y h. inl (subst (Has y) (sym all) (has_left y (slots_of before) (x ∷ []) h)))
+      (λ j m n _. subst (Has x) (sym all) (has_right x (slots_of before) (x ∷ []) (inl refl)))
+
+  -- the tail is loaded, and the reset of the last spare begins
+  pub begins : (many id : ℕ) (me : Me (Option S) (View E S)) (before : List Spare) (x a d : ℕ) → me.0.weight ≡ 1
+      → me.0.facts.spare_slots ≡ before ++ reset_slot x a d ∷ []
+      → Allows R many id me tail_place (λ n. n) (λ n me'. Began object before x me.0 n me'.0 × (me'.1 ≡ me.1))
+  begins many id me before x a d one is s r homes here small =
+      let v = me.0 in
+      let t = r.segments in
+      let n = slice_index s.words tail_place in
+      let sp = (last-spare s r id v before (reset_slot x a d) here is).1 in
+      let low = spare-low slots t (word_at r.hidden) s.words r.cells.shows r.cells.sound x sp.low sp.id a d sp.is in
+      let u = with_slot t x (spare sp.id t.tail 1) t.outs t.lit in
+      let same : slice_set s.words tail_place n ≡ s.words = set-get_or s.words tail_place 0 in
+      let b = subst (Becomes slots x t u (word_at r.hidden)) (sym same)
+      (begun slots t (word_at r.hidden) s.words r.cells.shows r.cells.sound x sp.low sp.id a d t.tail sp.is) in
+      let new = spare-turn s r id tail_place n x a d t.tail 1 me u before [] here one (omega arith) is b r.cells.made
+      (λ q. refl) (record {
+        low = sp.low;
+        id = sp.id;
+        is = changed_here t.slots x (spare sp.id t.tail 1);
+        begun = λ _. low;
+      }) in
+      let w = went v u (before ++ reset_slot x t.tail 1 ∷ []) [] in
+      let cells = (r.each_view id v here (omega arith)).cells_are in
+      let found = loads.tail-found slots t (word_at r.hidden) s.words r.cells.shows r.cells.sound w.segments refl in (
+        w,
+        keeps,
+        tt,
+        new.0,
+        (
+          record {
+            found = record {
+              id = t.tail;
+              slot = found.0.slot;
+              word = subst (λ z. n ≡ segment_word z found.0.slot) found.1 found.0.word;
+              home = subst (λ z. IsHome w.segments.homes z found.0.slot) found.1 found.0.home;
+              last = subst (λ z. length w.segments.homes ≡ z + 1) found.1 found.0.last;
+              low = subst (λ z. found.0.slot < slots_for z) (sym cells) found.0.low;
+            };
+            went = new.1;
+          },
+          refl,
+        ),
+      )
+
+  -- one of its cells is reset
+  pub resets : (many id : ℕ) (me : Me (Option S) (View E S)) (before : List Spare) (x a j : ℕ) → me.0.weight ≡ 1
+      → me.0.facts.spare_slots ≡ before ++ reset_slot x a (j + 1) ∷ [] → j < 32
+      → Allows R many id me (slot_cell x j) (λ _. empty_word (32 * (a + 1) + j))
+      (λ _ me'. Reset object before x a (j + 1) me.0 me'.0 × (me'.1 ≡ me.1))
+  resets many id me before x a j one is few s r homes here small =
+      let t = r.segments in
+      let sp = (last-spare s r id me.0 before (reset_slot x a (j + 1)) here is).1 in
+      let low : sp.id ≤ a = sp.begun (omega arith) in
+      let u = with_slot t x (spare sp.id a (j + 2)) t.outs t.lit in
+      let new = spare-turn s r id (slot_cell x j) (empty_word (32 * (a + 1) + j)) x a (j + 1) a (j + 2) me u before []
+      here one (omega arith) is
+      (cell-reset slots t (word_at r.hidden) s.words r.cells.shows r.cells.sound x sp.low sp.id a j sp.is low few)
+      r.cells.made (λ q. refl) (record {
+        low = sp.low;
+        id = sp.id;
+        is = changed_here t.slots x (spare sp.id a (j + 2));
+        begun = λ _. low;
+      }) in
+      let next : j + 2 ≡ j + 1 + 1 = omega arith in (
+        went me.0 u (before ++ reset_slot x a (j + 2) ∷ []) [],
+        keeps,
+        tt,
+        new.0,
+        (
+          subst (λ z. Went object (before ++ reset_slot x a z ∷ []) [] me.0
+              (went me.0 u (before ++ reset_slot x a (j + 2) ∷ []) [])) next new.1,
+          refl,
+        ),
+      )
+
+  -- the number of its settled cells is
+  pub resets-count : (many id : ℕ) (me : Me (Option S) (View E S)) (before : List Spare) (x a : ℕ) → me.0.weight ≡ 1
+      → me.0.facts.spare_slots ≡ before ++ reset_slot x a 33 ∷ []
+      → Allows R many id me (count_place x) (λ _. 0) (λ _ me'. Reset object before x a 33 me.0 me'.0 × (me'.1 ≡ me.1))
+  resets-count many id me before x a one is s r homes here small =
+      let t = r.segments in
+      let sp = (last-spare s r id me.0 before (reset_slot x a 33) here is).1 in
+      let u = with_slot t x (spare sp.id a 34) t.outs t.lit in
+      let new = spare-turn s r id (count_place x) 0 x a 33 a 34 me u before [] here one (omega arith) is
+      (count-reset slots t (word_at r.hidden) s.words r.cells.shows r.cells.sound x sp.low sp.id a sp.is)
+      r.cells.made (λ q. refl) (record {
+        low = sp.low;
+        id = sp.id;
+        is = changed_here t.slots x (spare sp.id a 34);
+        begun = λ _. sp.begun (omega arith);
+      }) in
+      (went me.0 u (before ++ reset_slot x a 34 ∷ []) [], keeps, tt, new.0, (new.1, refl))
+
+  -- the head of a segment that the pass found claimed is made live, unless that was done
+  pub lights : (many id : ℕ) (me : Me (Option S) (View E S)) (x q i : ℕ) → me.0.weight ≡ 1
+      → IsHome me.0.segments.homes q x → IsHome me.0.segments.kept q i → i < q
+      → Allows R many id me (head_place x) (λ n. either (eqb n (head_word i 1)) (head_word q 2) n)
+      (λ n me'. Lit object q me.0 me'.0 × (me'.1 ≡ me.1))
+  lights many id me x q i one home keeps-id lower s r homes here small =
+      by-exchange s id me (head_place x) n (head_word i 1) (head_word q 2) (λ w. Lit object q me.0 w)
+      (λ e.
+      let was = is-young slots t (word_at r.hidden) s.words r.cells.shows r.cells.sound x q at i lower e in
+      let u = with_slot t x (live q) t.outs (q + 1) in
+      let new = keep-turn s r id (head_place x) (head_word q 2) x me u [] here one (omega arith)
+      (lit slots t (word_at r.hidden) s.words r.cells.shows r.cells.sound x q at i was) r.cells.made (λ _. refl)
+      (λ j a d is. no-spare j a d (sym was ∙ is)) in
+      (went me.0 u me.0.facts.spare_slots [], new.0, record { lit = omega arith; went = new.1 }))
+      (λ a.
+      let look = segment-look s r id (head_place x) me [] here one (omega arith) in (
+        went me.0 t me.0.facts.spare_slots [],
+        look.0,
+        record {
+          lit = loads.lit-known slots t (word_at r.hidden) s.words r.cells.shows r.cells.sound x q below at
+              (λ j e. a ((r.cells.shows.each x below).head ∙ (ap slot_head e ∙ ap (λ z. head_word z 1)
+              (one-home t.kept q j i ((r.cells.sound.each x below).young q j e).3
+              (home-prefix me.0.segments.kept t.kept q i known.kept keeps-id)))));
+          went = look.1;
+        },
+      ))
+    where
+      t : Segments
+      t = r.segments
+
+      n : ℕ
+      n = slice_index s.words (head_place x)
+
+      known : Knows r.segments me.0.segments
+      known = (r.each_segment id me.0 here).seen
+
+      at : IsHome r.segments.homes q x
+      at = home-prefix me.0.segments.homes r.segments.homes q x (r.each_segment id me.0 here).seen.homes home
+
+      below : x < slots_for (cell_count passes limit primitive.values)
+      below = r.cells.sound.inside q x (home-prefix me.0.segments.homes r.segments.homes q x
+          (r.each_segment id me.0 here).seen.homes home)
+
+      no-spare : (j a d : ℕ) → fresh q i ≡ spare j a d → ⊥
+      no-spare j a d e = absurd (cc)
+
+  -- the tail goes on to the pass's last spare, unless it was found to be another
+  pub extends : (many id : ℕ) (me : Me (Option S) (View E S)) (before : List Spare) (x a slot : ℕ) → me.0.weight ≡ 1
+      → me.0.facts.spare_slots ≡ before ++ reset_slot x a 34 ∷ [] → IsHome me.0.segments.homes a slot
+      → a < me.0.segments.lit
+      → Allows R many id me tail_place (λ n. either (eqb n (segment_word a slot)) (segment_word (a + 1) x) n)
+      (λ n me'. Extended object before x a slot me.0 n me'.0 × (me'.1 ≡ me.1))
+  extends many id me before x a slot one is home lit-up s r homes here small =
+      by-exchange s id me tail_place n (segment_word a slot) (segment_word (a + 1) x)
+      (λ w. Extended object before x a slot me.0 n w)
+      (λ e.
+      let f = tail-at slots t (word_at r.hidden) s.words r.cells.shows r.cells.sound in
+      let few = r.cells.sound.few in
+      let mine = r.cells.sound.inside a slot at in
+      let theirs = f.3 in
+      let both : segment_word a slot ≡ segment_word t.tail f.0 = sym e ∙ f.2 in
+      let tail : a ≡ t.tail = omega arith in
+      let most = r.cells.sound.lit_near.1 in
+      let l = known.lit in
+      let up : t.lit ≡ t.tail + 1 = omega arith in
+      let u = with_tail t x sp.id in
+      let low : sp.id ≤ t.tail = let b = sp.begun (omega arith) in omega arith in
+      let b : Becomes slots x t u (word_at r.hidden) (slice_set s.words tail_place (segment_word (a + 1) x)) =
+      subst (λ z. Becomes slots x t u (word_at r.hidden) (slice_set s.words tail_place (segment_word (z + 1) x)))
+      (sym tail)
+      (extended slots t (word_at r.hidden) s.words r.cells.shows r.cells.sound r.cells.made x sp.id sp.low low
+      (sp.is ∙ ap (λ z. spare sp.id z 34) tail) up) in
+      let long = r.cells.sound.made in
+      let new = spent-turn s r id tail_place (segment_word (a + 1) x) x a 34 me u before [] here one (omega arith) is b
+      (record {
+        numbered = r.cells.made.numbered;
+        unmade = λ k high. r.cells.made.unmade k (omega arith);
+      })
+      (λ q. refl) in (
+        went me.0 u before [],
+        new.0,
+        record {
+          home = λ _. get-push_at t.homes x (a + 1) (omega arith);
+          last = λ _. length-append t.homes (x ∷ []) ∙ (let q : length t.homes + 1 ≡ a + 2 = omega arith in q);
+          made = λ _. new.1;
+          found = λ d. absurd (d e);
+          missed = λ d. absurd (d e);
+        },
+      ))
+      (λ d.
+      let look = segment-look s r id tail_place me [] here one (omega arith) in
+      let w = went me.0 t me.0.facts.spare_slots [] in (
+        w,
+        look.0,
+        record {
+          home = λ e. absurd (d e);
+          last = λ e. absurd (d e);
+          made = λ e. absurd (d e);
+          found = λ _. subst (λ z. TailFound (slots_for z) n w.segments)
+              (sym (r.each_view id me.0 here (omega arith)).cells_are)
+              (loads.tail-found slots t (word_at r.hidden) s.words r.cells.shows r.cells.sound w.segments refl).0;
+          missed = λ _. look.1;
+        },
+      ))
+    where
+      t : Segments
+      t = r.segments
+
+      n : ℕ
+      n = slice_index s.words tail_place
+
+      known : Knows r.segments me.0.segments
+      known = (r.each_segment id me.0 here).seen
+
+      at : IsHome r.segments.homes a slot
+      at = home-prefix me.0.segments.homes r.segments.homes a slot (r.each_segment id me.0 here).seen.homes home
+
+      sp : IsSpare slots r.segments (reset_slot x a 34)
+      sp = (last-spare s r id me.0 before (reset_slot x a 34) here is).1
+
+  -- a spare slot is given back
+  pub gives-back : (many id : ℕ) (me : Me (Option S) (View E S)) (before : List Spare) (x a d i : ℕ) → me.0.weight ≡ 1
+      → me.0.facts.spare_slots ≡ before ++ reset_slot x a d ∷ []
+      → Allows R many id me (head_place x) (λ n. either (eqb n (head_word i 1)) (head_word i 0) n)
+      (λ n me'. ((n ≡ head_word i 1 → Went object before [] me.0 me'.0)
+      × (n ≢ head_word i 1 → Went object me.0.facts.spare_slots [] me.0 me'.0)) × (me'.1 ≡ me.1))
+  gives-back many id me before x a d i one is s r homes here small =
+      let t = r.segments in
+      let n = slice_index s.words (head_place x) in
+      let sp = (last-spare s r id me.0 before (reset_slot x a d) here is).1 in
+      by-exchange s id me (head_place x) n (head_word i 1) (head_word i 0)
+      (λ w. (n ≡ head_word i 1 → Went object before [] me.0 w)
+      × (n ≢ head_word i 1 → Went object me.0.facts.spare_slots [] me.0 w))
+      (λ e.
+      let same : sp.id ≡ i =
+      let h : head_word i 1 ≡ head_word sp.id 1 = sym e ∙ ((r.cells.shows.each x sp.low).head ∙ ap slot_head sp.is) in
+      omega arith in
+      let u = with_slot t x (free i) t.outs t.lit in
+      let new = spent-turn s r id (head_place x) (head_word i 0) x a d me u before [] here one (omega arith) is
+      (given-back slots t (word_at r.hidden) s.words r.cells.shows r.cells.sound x sp.low i a d
+      (sp.is ∙ ap (λ z. spare z a d) same)) r.cells.made (λ q. refl) in
+      (went me.0 u before [], new.0, ((λ _. new.1), (λ m. absurd (m e)))))
+      (λ m.
+      let look = segment-look s r id (head_place x) me [] here one (omega arith) in
+      (went me.0 t me.0.facts.spare_slots [], look.0, ((λ e. absurd (m e)), (λ _. look.1))))
+
+  -- a load of a number of settled cells
+  pub loads-count : (many id : ℕ) (me : Me (Option S) (View E S)) (x : ℕ) → me.0.weight ≡ 1 → x < slots_for me.0.cells
+      → Allows R many id me (count_place x) (λ n. n) (λ n me'. CountLoaded object x me.0 n me'.0 × (me'.1 ≡ me.1))
+  loads-count many id me x one below s r homes here small =
+      let t = segment-look s r id (count_place x) me [] here one (omega arith) in
+      let cells = (r.each_view id me.0 here (omega arith)).cells_are in (
+        went me.0 r.segments me.0.facts.spare_slots [],
+        keeps,
+        tt,
+        t.0,
+        (
+          record {
+            found = loads.count-told slots r.segments (word_at r.hidden) s.words r.cells.shows r.cells.sound
+                me.0.segments x (subst (λ z. x < slots_for z) cells below) (r.each_segment id me.0 here).seen;
+            went = t.1;
+          },
+          refl,
+        ),
+      )

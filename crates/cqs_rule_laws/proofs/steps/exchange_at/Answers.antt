@@ -1,0 +1,20 @@
+use Rattle.std.proofs.Common.{◌==◌}
+use mathlib.Core.Option.{none}
+use prog.Atomic.{either}
+use Rattle.atomic_table.specs.Table.{step}
+use Rattle.cqs_rule_laws.proofs.Alone.{tells-alone}
+use Rattle.cqs_rule_laws.proofs.steps.exchange_at.Goals as goal
+
+pub compare_exchange-requires : goal.compare_exchange-requires
+compare_exchange-requires g c =
+    let C = g.C.ClientWords in
+    let words = c.args.words.now in
+    let slots = words.table_id.slots in
+    let me = c.args.seat.now.me in (
+      c.requires.table,
+      c.requires.inside,
+      tells-alone C.object C.primitive _ _ words.key.client (g.met.C.ClientWords.keeps words.key.client) slots
+          c.args.seat.now.id me c.args.word (λ n. either (n == c.args.saw) c.args.new n)
+          (g.T.Telling.told (step slots c.args.word c.args.saw c.args.new none) me)
+          c.requires.allowed,
+    )

@@ -1,0 +1,76 @@
+-- The steps on the words of segments: none is an event, and each leaves its pass at what it was at,
+-- but for the slots that it has spare.
+use Rattle.std.specs.Prelude.{◌≡◌, ◌≢◌, ℕ, ◌+◌, ◌<◌, List, [], ◌∷◌, ◌++◌, length}
+use Rattle.cqs_words.specs.Segment.{segment_word}
+use Rattle.cqs_slots.specs.Slots.{IsHome}
+use Rattle.cqs_slots.specs.Told.{TailFound, HeadFound, CountFound}
+use Rattle.cqs_rule_laws.specs.declared.view.Facts.{Facts}
+use Rattle.cqs_rule_laws.specs.declared.view.Spare.{Spare}
+use Rattle.cqs_rule_laws.specs.declared.view.View.{View}
+use Rattle.cqs_rule_laws.specs.Layout.{slots_for}
+use Rattle.cqs_rule_laws.specs.Object.{Object}
+use Rattle.cqs_rule_laws.specs.Saw.{Saw}
+
+-- a pass at these facts that has these slots spare, and found these heads besides
+abbrev pub facts_spared : List Spare → List (ℕ × ℕ) → Facts → Facts
+facts_spared spares heads f = record f { spare_slots = spares; heads = f.heads ++ heads }
+
+-- a slot that was claimed just now
+abbrev pub claimed_slot : ℕ → Spare
+claimed_slot x = record { slot = x; after = 0; done = 0 }
+
+-- a spare that is reset so far, for the segment after this one
+abbrev pub reset_slot : ℕ → ℕ → ℕ → Spare
+reset_slot x after done = record { slot = x; after = after; done = done }
+
+module _ {E S : Type 0} (object : Object E) where
+  -- a step was made that leaves the pass these spare slots
+  abbrev pub Went : List Spare → List (ℕ × ℕ) → View E S → View E S → Type 0
+  Went spares heads v w = Saw object v (facts_spared spares heads v.facts) [] w
+
+  -- the tail was loaded
+  pub record TailLoaded (v : View E S) (n : ℕ) (w : View E S) : Type 0 where
+    pub found : TailFound (slots_for v.cells) n w.segments
+    pub went : Went v.facts.spare_slots [] v w
+
+  -- the head of the slot x was
+  pub record HeadLoaded (x : ℕ) (v : View E S) (n : ℕ) (w : View E S) : Type 0 where
+    pub found : HeadFound x n v.segments w.segments
+    pub went : Went v.facts.spare_slots ((x, n) ∷ []) v w
+
+  -- a free slot was claimed, where its head still was this
+  pub record Claimed (x expected : ℕ) (v : View E S) (n : ℕ) (w : View E S) : Type 0 where
+    pub made : n ≡ expected
+        → Went (v.facts.spare_slots ++ claimed_slot x ∷ []) ((x, n) ∷ []) v w
+    pub missed : n ≢ expected → Went v.facts.spare_slots ((x, n) ∷ []) v w
+
+  -- The tail was loaded, and with that the reset of the pass's last spare began, for the segment
+  -- after the tail's.
+  pub record Began (before : List Spare) (x : ℕ) (v : View E S) (n : ℕ) (w : View E S) : Type 0
+    where
+      pub found : TailFound (slots_for v.cells) n w.segments
+      pub went : Went (before ++ reset_slot x found.id 1 ∷ []) [] v w
+
+  -- one more of its words was reset
+  abbrev pub Reset : List Spare → ℕ → ℕ → ℕ → View E S → View E S → Type 0
+  Reset before x after done v w = Went (before ++ reset_slot x after (done + 1) ∷ []) [] v w
+
+  -- a head that was found claimed was made live, by this pass or before
+  pub record Lit (s : ℕ) (v w : View E S) : Type 0 where
+    pub lit : s < w.segments.lit
+    pub went : Went v.facts.spare_slots [] v w
+
+  -- The pass's last spare became the home of the segment after a; or the tail was found to be
+  -- another.
+  pub record Extended (before : List Spare) (x a slot : ℕ) (v : View E S) (n : ℕ) (w : View E S)
+      : Type 0 where
+    pub home : n ≡ segment_word a slot → IsHome w.segments.homes (a + 1) x
+    pub last : n ≡ segment_word a slot → length w.segments.homes ≡ a + 2
+    pub made : n ≡ segment_word a slot → Went before [] v w
+    pub found : n ≢ segment_word a slot → TailFound (slots_for v.cells) n w.segments
+    pub missed : n ≢ segment_word a slot → Went v.facts.spare_slots [] v w
+
+  -- the number of settled cells in the slot x was loaded
+  pub record CountLoaded (x : ℕ) (v : View E S) (n : ℕ) (w : View E S) : Type 0 where
+    pub found : CountFound x n v.segments w.segments
+    pub went : Went v.facts.spare_slots [] v w

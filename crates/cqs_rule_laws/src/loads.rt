@@ -1,0 +1,123 @@
+//! The loads of the table, as type parameters of the call that makes them, and what a pass learns
+//! by them.
+
+ghost use Rattle.std.specs.Prelude.{◌≡◌};
+ghost use Rattle.cqs_rule_laws.specs.Loads.{
+  counts,
+  watches,
+  polls,
+  cancels,
+  meets,
+  misses,
+  learned_of,
+  served_in,
+};
+ghost use Rattle.cqs_words.specs.Cell.{unpacked_cell};
+
+use cqs_words::{CellState, CellWord};
+
+/// What a pass learns by a load.
+pub enum Learned {
+    /// Nothing that it has or owes changes.
+    Nothing,
+    /// Its wait was served: what it waited for is its own, and the wait is closed.
+    Granted,
+    /// The resumption that it owed ended at this cell.
+    Ended,
+}
+
+/// What a call loads, and the event that its load names.
+pub trait Load {
+    ghost use Rattle.std.specs.Prelude.{◌≡◌};
+    ghost use Rattle.cqs_rule_laws.specs.Loads.{LoadStep, learns};
+
+    ghost load: { LoadStep };
+
+    /// What a load that found this word tells its pass.
+    fn learns(found: u64) -> Learned
+        ensures { result ≡ learns load found };
+}
+
+// What the owner of a wait learns from the word of its cell.
+fn owner_learns(found: u64) -> Learned
+    ensures { result ≡ learned_of served_in (unpacked_cell found) }
+{
+    match CellWord::unpack(found) {
+        Some(cell) if cell.state == CellState::Resumed => Learned::Granted,
+        _ => Learned::Nothing,
+    }
+}
+
+/// The suspend counter.
+pub struct Counts;
+
+impl Load for Counts {
+    ghost load = { counts };
+
+    fn learns(_found: u64) -> Learned {
+        Learned::Nothing
+    }
+}
+
+/// A cell, with no event.
+pub struct Watches;
+
+impl Load for Watches {
+    ghost load = { watches };
+
+    fn learns(_found: u64) -> Learned {
+        Learned::Nothing
+    }
+}
+
+/// The cell of a wait, by its owner: the wait still stands, or it was served.
+pub struct Polls;
+
+impl Load for Polls {
+    ghost load = { polls };
+
+    fn learns(found: u64) -> Learned {
+        owner_learns(found)
+    }
+}
+
+/// The cell of a wait, by its owner who is about to cancel it: it was served, so it is too late;
+/// where the wait still stands, this is no event.
+pub struct Cancels;
+
+impl Load for Cancels {
+    ghost load = { cancels };
+
+    fn learns(found: u64) -> Learned {
+        owner_learns(found)
+    }
+}
+
+/// The cell of a ticket, by its resume, in smart mode: it passes over a cancelled cell, and ends at
+/// a refused one.
+pub struct Meets;
+
+impl Load for Meets {
+    ghost load = { meets };
+
+    fn learns(found: u64) -> Learned {
+        match CellWord::unpack(found) {
+            Some(cell) if cell.state == CellState::Refused => Learned::Ended,
+            _ => Learned::Nothing,
+        }
+    }
+}
+
+/// The cell of a ticket, by its resume, in simple mode: it ends at a cancelled cell.
+pub struct Misses;
+
+impl Load for Misses {
+    ghost load = { misses };
+
+    fn learns(found: u64) -> Learned {
+        match CellWord::unpack(found) {
+            Some(cell) if cell.state == CellState::Cancelled => Learned::Ended,
+            _ => Learned::Nothing,
+        }
+    }
+}

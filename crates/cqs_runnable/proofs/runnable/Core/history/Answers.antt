@@ -1,8 +1,0 @@
-use Rattle.cqs_core.proofs.CoreFacts.{shows-object, balanced-object}
-use Rattle.cqs_runnable.proofs.runnable.Core.history.Goals as goal
-
-pub returns-clause-shows : goal.returns-clause-shows
-returns-clause-shows c = rw (← c.self.view_is) (shows-object c.self.inside.table.shape c.self.invariant)
-
-pub returns-clause-balanced : goal.returns-clause-balanced
-returns-clause-balanced c = rw (← c.self.view_is) (balanced-object c.self.inside.table.shape c.self.invariant)

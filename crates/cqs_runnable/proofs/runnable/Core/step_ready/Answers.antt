@@ -1,9 +1,0 @@
-use Rattle.cqs_core.proofs.CallsKeep.{core-fits}
-use Rattle.cqs_core.proofs.StepKeeps.{ready-keeps}
-use Rattle.cqs_runnable.proofs.runnable.Core.step_ready.Goals as goal
-
-pub step_ready-requires-clause-fits : goal.step_ready-requires-clause-fits
-step_ready-requires-clause-fits c = core-fits _ c.self.invariant
-
-pub invariant_of-self : goal.invariant_of-self
-invariant_of-self c = ready-keeps _ _ _ _ c.self.invariant c.step_ready.ensures

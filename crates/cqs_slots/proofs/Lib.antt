@@ -1,0 +1,15 @@
+pub mod Lists
+pub mod Counted
+pub mod Places
+pub mod Stays
+pub mod Stands
+pub mod Turns
+pub mod Claims
+pub mod Resets
+pub mod Marks
+pub mod Extends
+pub mod Counts
+pub mod Writes
+pub mod Loads
+pub mod Opens
+pub mod Joined

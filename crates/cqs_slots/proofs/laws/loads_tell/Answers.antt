@@ -1,0 +1,12 @@
+use Rattle.cqs_slots.proofs.Joined.{tail-tells}
+use Rattle.cqs_slots.proofs.Loads.{head-found, count-told}
+use Rattle.cqs_slots.proofs.laws.loads_tell.Goals as goal
+
+pub returns-clause-tail : goal.returns-clause-tail
+returns-clause-tail c = tail-tells
+
+pub returns-clause-head : goal.returns-clause-head
+returns-clause-head c = head-found
+
+pub returns-clause-count : goal.returns-clause-count
+returns-clause-count c = count-told

@@ -1,0 +1,7 @@
+pub mod Layout
+pub mod Slots
+pub mod Shown
+pub mod Told
+pub mod Opened
+pub mod Steps
+pub mod Laws

@@ -25,10 +25,10 @@ use Rattle.cqs_barrier_object.specs.BarrierObject.{Barrier}
 use Rattle.cqs_barrier_object.specs.SoleCaller as plain
 use Rattle.cqs_barrier_object.specs.SoleCaller.{tells, delivers, sole_arrive, look_at, leave_at, numbers_of}
 use Rattle.cqs_rule.specs.declared.queue.tokens.Wait.{Wait}
-use Rattle.cqs_views.specs.declared.view.View.{View}
-use Rattle.cqs_views.specs.Alone.{IsAlone}
-use Rattle.cqs_views.specs.Hidden.{state_in}
-use Rattle.cqs_views.specs.Lists.{Has}
+use Rattle.cqs_rule_laws.specs.declared.view.View.{View}
+use Rattle.cqs_rule_laws.specs.Alone.{IsAlone}
+use Rattle.cqs_rule_laws.specs.Hidden.{state_in}
+use Rattle.cqs_rule_laws.specs.Lists.{Has}
 use Rattle.cqs_rule.specs.Owed.{owes_at}
 use Rattle.cqs_rule.specs.Waits.{place_of}
 use Rattle.cqs_barrier.specs.declared.answers.Arrived.{Arrived}
@@ -41,7 +41,8 @@ use Rattle.cqs_barrier.specs.declared.answers.PartyPolled.TheVariants.{Through, 
 use Rattle.cqs_barrier.specs.Alone.{IsPlainArrive, IsPlainFinish, IsPlainPoll, IsPlainCancel}
 use Rattle.cqs_barrier.specs.Answers.{IsPolled}
 use Rattle.cqs_barrier.specs.Arriving.{WaitsForOthers}
-use Rattle.cqs_barrier.specs.Calls.{CallRule, IsReady, plain_after, waiting_in}
+use Rattle.cqs_rule_laws.specs.CallRule.{IsReady}
+use Rattle.cqs_barrier.specs.Calls.{CallRule, plain_after, waiting_in}
 use Rattle.cqs_barrier.specs.Causes.{primitive_of, CellWas}
 use Rattle.cqs_barrier.specs.Entries.{polled_entries}
 use Rattle.cqs_barrier.specs.Leaving.{HasLeft}

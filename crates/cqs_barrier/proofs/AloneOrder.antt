@@ -1,28 +1,25 @@
 -- The resumptions of a pass that is alone reach the first of the line, one after the other.
-use Rattle.std.proofs.Common.{◌≡◌, ℕ, ◌<◌, true, List, [], ◌∷◌, ◌++◌, length, Some, slice_get, take, sym, refl, ap, ◌∙◌, subst, append_assoc, arith, take_at}
+use Rattle.std.proofs.Common.{◌≡◌, ℕ, true, List, [], ◌∷◌, ◌++◌, length, Some, slice_get, take, sym, refl, ap, ◌∙◌, subst, append_assoc, take_at}
 use Rattle.std.specs.List.{fold}
 use Rattle.std.proofs.lemmas.List.Sums.{fold-append}
 use Rattle.cqs_core.specs.declared.doings.Doing.TheVariants as doing
-use Rattle.cqs_core.specs.Keyed.{insert_by}
-use Rattle.cqs_core.specs.Numbered.{IsIn}
-use Rattle.cqs_core.specs.QueueLine.{Service}
-use Rattle.cqs_core.specs.QueueWaiters.{Waits, Waiters, waiters, with_service, is_reached}
+use Rattle.cqs_core.specs.QueueWaiters.{Waits, waiters, is_reached}
 use Rattle.cqs_core.proofs.Places.{get-append_left, get-push_at}
 use Rattle.cqs_core.proofs.Rising.{in-take}
-use Rattle.cqs_core.proofs.Waits.{found-waits}
+use Rattle.cqs_core.proofs.IdleLines.{served-first}
 use Rattle.cqs_barrier_object.specs.declared.entries.BarrierEntry.{BarrierEntry}
 use Rattle.cqs_barrier_object.specs.declared.entries.BarrierEntry.TheVariants as entry
 use Rattle.cqs_barrier_object.specs.BarrierEntries.{object_after, after_entry, after_delivery, IsLegal, IsAllowed}
 use Rattle.cqs_barrier_object.specs.BarrierObject.{Barrier, opening}
 use Rattle.cqs_barrier_object.specs.SoleCaller.{numbers_of}
-use Rattle.cqs_views.specs.declared.view.Opening.{Opening}
-use Rattle.cqs_views.specs.declared.view.View.{View}
-use Rattle.cqs_views.specs.Alone.{IsAlone}
-use Rattle.cqs_views.specs.Called.{Called}
+use Rattle.cqs_rule_laws.specs.declared.view.Opening.{Opening}
+use Rattle.cqs_rule_laws.specs.declared.view.View.{View}
+use Rattle.cqs_rule_laws.specs.Alone.{IsAlone}
+use Rattle.cqs_rule_laws.specs.Called.{Called}
 use Rattle.cqs_barrier.specs.Barrier.{barrier_object}
 use Rattle.cqs_barrier.specs.Calls.{plain_after, waiting_in}
 use Rattle.cqs_barrier.specs.Causes.{primitive_of}
-use Rattle.cqs_barrier.proofs.AloneLine.{first-in, in-placed, line-ahead, served-reached, sees, line-rising, all-idle}
+use Rattle.cqs_barrier.proofs.AloneLine.{sees, line-rising, all-idle}
 
 -- an entry of a legal history may come after those before it
 pub allowed-at : (size : ℕ) (h mid rest all : List BarrierEntry) (e : BarrierEntry) → all ≡ h ++ (mid ++ e ∷ rest)
@@ -88,19 +85,7 @@ module _ {T : Type 0} where
       let who = may.1.0 in
       let waits : Waits k who o.waiters.line =
       (in-take (record { wait = k; pass = who }) o.way o.waiters.line may.1.1).1 in
-      let found = found-waits k who o.waiters.line waits in
       let q = b.hidden.queue in
       let shows : is_reached o.waiters k ≡ waiters q = ap (λ (z : Barrier). z.waiters) (sym now) ∙ sees w b in
-      let rests = all-idle w b idle in
-      let y : Service = record { wait = found.wait.wait; pass = found.wait.pass; is_open = true } in
-      let there : IsIn y (insert_by (λ (s : Service). s.wait) y o.waiters.served) =
-      in-placed (λ (s : Service). s.wait) y o.waiters.served in
-      let there_too : IsIn y (is_reached o.waiters k).served =
-      subst (λ z. IsIn y (with_service z o.waiters.served)) (sym found.is) there in
-      let reached : y.wait < q.resumes =
-      served-reached q b.shown.barrier.sound rests y (subst (λ (z : Waiters). IsIn y z.served) shows there_too) in
-      let number : found.wait.wait ≡ k = found.number in
-      first-in k who q.resumes 0 _ o.waiters.line (line-rising v a) waits (omega (arith, number, reached))
-      (λ x stands. line-ahead q b.shown.barrier.sound rests x
-      (subst (λ (z : Waiters). IsIn x z.line) shows stands))
+      served-first q o.waiters k who b.shown.barrier.sound (all-idle w b idle) 0 _ (line-rising v a) waits shows
       ∙ ap (λ (z : Barrier). k ∷ numbers_of z.waiters.line) (sym now)

@@ -7,19 +7,20 @@ use Rattle.cqs_core.specs.declared.doings.Doing.TheVariants as doing
 use Rattle.cqs_barrier_object.specs.declared.entries.BarrierEntry.{BarrierEntry}
 use Rattle.cqs_barrier_object.specs.SoleCaller.{delivers}
 use Rattle.cqs_barrier_object.specs.declared.entries.BarrierEntry.TheVariants as entry
+use Rattle.cqs_barrier_object.specs.BarrierNames.{entry_names}
 use Rattle.cqs_barrier_object.specs.BarrierEntries.{IsAllowed, IsLegal, object_after}
-use Rattle.cqs_core.specs.QueueSteps.{takes}
+use Rattle.cqs_core.specs.QueueSteps.{draws, takes}
 use Rattle.cqs_core.proofs.Places.{get-push_at}
-use Rattle.cqs_views.specs.declared.view.Facts.{Facts}
-use Rattle.cqs_views.specs.declared.view.Opening.{Opening}
-use Rattle.cqs_views.specs.declared.view.View.{View}
-use Rattle.cqs_views.specs.Called.{Called}
-use Rattle.cqs_views.specs.Events.{in_any_case, facts_moved, moment}
-use Rattle.cqs_views.specs.Layout.{client_place}
-use Rattle.cqs_views.specs.Lists.{Has, IsPrefix}
-use Rattle.cqs_views.specs.Saw.{Saw}
+use Rattle.cqs_rule_laws.specs.declared.view.Facts.{Facts}
+use Rattle.cqs_rule_laws.specs.declared.view.Opening.{Opening}
+use Rattle.cqs_rule_laws.specs.declared.view.View.{View}
+use Rattle.cqs_rule_laws.specs.Called.{Called}
+use Rattle.cqs_rule_laws.specs.Events.{in_any_case, facts_moved, moment}
+use Rattle.cqs_rule_laws.specs.Layout.{client_place}
+use Rattle.cqs_rule_laws.specs.Lists.{Has, IsPrefix}
+use Rattle.cqs_rule_laws.specs.Saw.{Saw}
 use Rattle.cqs_rule.specs.Waits.{place_of}
-use Rattle.cqs_views.proofs.Calls.{called-by, called-then, called-and}
+use Rattle.cqs_rule_laws.proofs.Calls.{called-by, called-then, called-and}
 use Rattle.cqs_suspend.specs.Suspends.{EndsBy}
 use Rattle.cqs_barrier.specs.declared.answers.Arrived.{Arrived}
 use Rattle.cqs_barrier.specs.declared.answers.Arrived.TheVariants.{Last, LastOwing, Later}
@@ -27,18 +28,21 @@ use Rattle.cqs_barrier.specs.declared.answers.Owing.{Owing}
 use Rattle.cqs_barrier.specs.Arriving.{NextIs, IsWorn, IsBelow, WasEarly, CameEarly, CameLast, Arrives, EndsAtCell, WaitsForOthers}
 use Rattle.cqs_barrier.specs.Barrier.{barrier_object, arrives}
 use Rattle.cqs_barrier.specs.BarrierWord.{OnWord}
-use Rattle.cqs_barrier.specs.Calls.{IsReady}
+use Rattle.cqs_rule_laws.specs.CallRule.{IsReady}
 use Rattle.cqs_barrier.specs.Causes.{primitive_of}
 use Rattle.cqs_barrier.specs.Leaving.{RemainingWas}
 use Rattle.cqs_barrier.specs.Resuming.{OwesMore, Ran, RanAll}
 use Rattle.cqs_barrier.specs.Word.{parties_in, remaining_in, is_last}
-use Rattle.cqs_barrier.proofs.LeaveSteps.{prefix-same, prefix-then, saw-prefix, remaining-was}
-use Rattle.cqs_barrier.proofs.Rules.{NoneName, call-rule, call-rule_own, called-weak}
+use Rattle.cqs_rule_laws.proofs.Lists.{prefix-then}
+use Rattle.cqs_rule_laws.proofs.Prefixes.{prefix-same, saw-prefix}
+use Rattle.cqs_rule_laws.proofs.Rules.{NoneName, call-rule_ending, call-rule_own, called-weak}
+use Rattle.cqs_suspend.proofs.Sat.{sat-taken, sat-installed}
+use Rattle.cqs_barrier.proofs.LeaveSteps.{remaining-was}
 
 abbrev arrive_entries : Bool → ℕ → List BarrierEntry
 arrive_entries b p = if b then entry.ArriveLast p ∷ [] else entry.ArriveDoor p ∷ []
 
-pub delivers-name : (ks : List ℕ) → NoneName (delivers ks)
+pub delivers-name : (ks : List ℕ) → NoneName entry_names (delivers ks)
 delivers-name [] = tt
 delivers-name (k ∷ ks) = (λ n. refl, delivers-name ks)
 
@@ -57,7 +61,7 @@ module _ {T : Type 0} where
   worn v u n next high ready has legal =
       let is = next.saw.facts_are in
       record {
-        called = call-rule_own v u [] [] (called-by barrier_object v u _ [] next.saw) tt has legal;
+        called = call-rule_own barrier_object v u [] [] (called-by barrier_object v u _ [] next.saw) tt has legal;
         worn = let same = next.next in omega arith;
         rests = record {
           ready = record {
@@ -102,18 +106,18 @@ module _ {T : Type 0} where
       subst (λ es. x.seen ≡ o.before ++ es) so o.seen in
       let opening : x.opening ≡ u.opening = o.saw.same.opening in
       record {
-        called = called-weak v x (arrive_entries b v.number) _
+        called = called-weak barrier_object v x (arrive_entries b v.number) _
             (called-then barrier_object v u x now [] [] (arrive_entries b v.number)
             (called-by barrier_object v u _ [] next.saw) saw);
         at_load = u.seen;
-        since = saw-prefix v u _ _ next.saw;
-        on = saw-prefix u x _ _ saw;
+        since = saw-prefix barrier_object v u _ _ next.saw;
+        on = saw-prefix barrier_object u x _ _ saw;
         below = let same = next.next in
             let moved : (object_after x.opening.size u.seen).waiters.next ≡ n =
             ap (λ (z : Opening). (object_after z.size u.seen).waiters.next) opening ∙ same in omega arith;
         before = o.before;
-        found = remaining-was v u x x now _ o.before (remaining_in m) (saw-prefix v u _ _ next.saw) saw seen o.remaining
-            (prefix-same x.seen) refl;
+        found = remaining-was v u x x now _ o.before (remaining_in m)
+            (saw-prefix barrier_object v u _ _ next.saw) saw seen o.remaining (prefix-same x.seen) refl;
         ends = seen;
         parties = o.parties;
         doing = ap (λ (f : Facts). f.doing) after ∙ ap (λ z. if z then doing.Idle else doing.Door) is;
@@ -149,7 +153,7 @@ module _ {T : Type 0} where
   pub last-called : (m : ℕ) (ks over : List ℕ) (v x w : View BarrierEntry T) → is_last m ≡ true → Came true m v x
       → Ran ks over x w → Has v.number v.own → IsLegal w.opening.size w.seen → CameLast ks v w
   last-called m ks over v x w is c r has legal = record {
-    called = call-rule v w (entry.ArriveLast v.number ∷ []) (delivers ks)
+    called = call-rule_ending barrier_object v w (entry.ArriveLast v.number ∷ []) (delivers ks) []
         (called-and barrier_object v x w _ [] (delivers ks) [] c.called r.called) (λ n. refl, tt) (delivers-name ks) has
         legal;
     last = record {
@@ -224,8 +228,9 @@ module _ {T : Type 0} where
       (entry.ArriveDoor v.number ∷ entry.Enter p k ∷ entry.Deliver k ∷ []) (entry.Deliver k ∷ []) w)
       c.called.same.number called in
       record {
-        called = call-rule v w (entry.ArriveDoor v.number ∷ entry.Enter v.number k ∷ []) (entry.Deliver k ∷ [])
-            (called-weak v w _ _ named) (λ n. refl, (λ n. refl, tt)) (λ n. refl, tt) has legal;
+        called = call-rule_ending barrier_object v w (entry.ArriveDoor v.number ∷ entry.Enter v.number k ∷ [])
+            (entry.Deliver k ∷ []) []
+            (called-weak barrier_object v w _ _ named) (λ n. refl, (λ n. refl, tt)) (λ n. refl, tt) has legal;
         ends = (named.before, named.ends);
         early = early m v x w more c on ends.called.same.opening;
       }
@@ -263,7 +268,7 @@ module _ {T : Type 0} where
       c.called.same.number called in (
         (
           record {
-            called = call-rule_own v w (entry.ArriveDoor v.number ∷ entry.Enter v.number k ∷ []) _ named
+            called = call-rule_own barrier_object v w (entry.ArriveDoor v.number ∷ entry.Enter v.number k ∷ []) _ named
                 (λ n. refl, (λ n. refl, tt)) has legal;
             ends = (w.seen, sym (append-nil w.seen));
             early = early m v x w more c on ends.called.same.opening;
@@ -293,21 +298,9 @@ module _ {T : Type 0} where
       inr (
         e.0,
         came-meanwhile m e.0 e.1 v x w more c ends has legal,
-        record {
-          word = ends.word;
-          payload = e.1;
-          cell = ends.cell;
-          found = (_, ap (λ (f : Facts). f.found) ends.facts_are);
-          was = ends.was;
-        },
+        (sat-taken barrier_object primitive_of draws 2 e.0 e.1 x w ends).cell.0,
       )
   ends-early m (LastOwing owing) v x w more c e has legal = tt
   ends-early m (Later wait) v x w more c e has legal =
-      let ends = e.0 in
-      record {
-        word = ends.word;
-        payload = 0;
-        cell = ends.cell;
-        found = (_, ap (λ (f : Facts). f.found) ends.facts_are);
-        was = ends.was;
-      }
+      let k = (place_of (Rattle.cqs_barrier.specs.Waits.wait_in wait)).index in
+      (sat-installed barrier_object primitive_of draws 0 k 0 x w e.0).cell.0

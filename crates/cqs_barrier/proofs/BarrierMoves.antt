@@ -14,15 +14,15 @@ use Rattle.cqs_barrier_object.specs.BarrierShown.{Shape, IsBarrier}
 use Rattle.cqs_barrier_object.specs.BarrierSteps.{MayArrive}
 use Rattle.cqs_barrier_object.proofs.Parties.{held-within}
 use Rattle.cqs_barrier_object.proofs.WordSteps.{arrival-keeps, last-keeps, withdrawal-keeps, stay-keeps}
-use Rattle.cqs_views.specs.declared.view.Facts.{Facts}
-use Rattle.cqs_views.specs.declared.view.Has.{Has}
-use Rattle.cqs_views.specs.Events.{Moves, word_plus, word_after_exchange, in_any_case, where_found}
-use Rattle.cqs_views.specs.Facts.{is_owing}
-use Rattle.cqs_views.specs.Hidden.{Hidden, stands_at}
-use Rattle.cqs_views.specs.Lists.{NamesOnly}
-use Rattle.cqs_views.specs.Ruled.{number_at}
-use Rattle.cqs_views.specs.Held.{held_of}
-use Rattle.cqs_views.proofs.Held.{held-is, held-set, held-kept}
+use Rattle.cqs_rule_laws.specs.declared.view.Facts.{Facts}
+use Rattle.cqs_rule_laws.specs.declared.view.Has.{Has}
+use Rattle.cqs_rule_laws.specs.Events.{Moves, word_plus, word_after_exchange, in_any_case, where_found}
+use Rattle.cqs_rule_laws.specs.Facts.{is_owing}
+use Rattle.cqs_rule_laws.specs.Hidden.{Hidden, stands_at}
+use Rattle.cqs_rule_laws.specs.Lists.{NamesOnly}
+use Rattle.cqs_rule_laws.specs.Ruled.{number_at}
+use Rattle.cqs_rule_laws.specs.Held.{held_of}
+use Rattle.cqs_rule_laws.proofs.Held.{held-is, held-set, held-kept}
 use Rattle.cqs_barrier.specs.Barrier.{further_of, barrier_shown, ShowsBarrier, barrier_object, barrier_primitive, arrives, looks_to_leave, withdraws}
 use Rattle.cqs_barrier.specs.BarrierClient.{further-set, further-kept}
 use Rattle.cqs_barrier.specs.Word.{parties_in, remaining_in, is_over, is_last}

@@ -1,8 +1,10 @@
 -- A finish is the resumption that was handed back, and those behind it.
 use Rattle.std.proofs.Common.{ℕ, List, [], ◌++◌, Result, Ok, Err, Option, Some, None, arith, length-append}
 use Rattle.cqs_rule.specs.declared.queue.tokens.Under.{Under}
-use Rattle.cqs_views.specs.declared.view.View.{View}
-use Rattle.cqs_views.specs.Lists.{Has}
+use Rattle.cqs_rule_laws.specs.declared.view.View.{View}
+use Rattle.cqs_rule_laws.specs.Lists.{Has}
+use Rattle.cqs_rule_laws.proofs.Rules.{call-rule_ending}
+use Rattle.cqs_barrier.specs.Barrier.{barrier_object}
 use Rattle.cqs_barrier_object.specs.declared.entries.BarrierEntry.{BarrierEntry}
 use Rattle.cqs_barrier_object.specs.SoleCaller.{delivers}
 use Rattle.cqs_barrier_object.specs.BarrierEntries.{IsLegal}
@@ -11,7 +13,6 @@ use Rattle.cqs_barrier.specs.Arriving.{Finished, Finishes}
 use Rattle.cqs_barrier.specs.Resuming.{Ran, RanNext, RanAll, OwesMore}
 use Rattle.cqs_barrier.proofs.ArriveSteps.{delivers-name}
 use Rattle.cqs_barrier.proofs.ResumeSteps.{ran-none, ran-then, all-handed}
-use Rattle.cqs_barrier.proofs.Rules.{call-rule}
 
 abbrev pub finish_answer : Option Owing → Result (Unit {0}) Owing
 finish_answer None = Ok tt
@@ -21,7 +22,7 @@ module _ {T : Type 0} where
   pub ran-finished : (ks over : List ℕ) (v w : View BarrierEntry T) → Ran ks over v w → Has v.number v.own
       → IsLegal w.opening.size w.seen → Finished ks over v w
   ran-finished ks over v w r has legal = record {
-    called = call-rule v w [] (delivers ks) r.called tt (delivers-name ks) has legal;
+    called = call-rule_ending barrier_object v w [] (delivers ks) [] r.called tt (delivers-name ks) has legal;
     held = r.held;
     waits = r.waits;
     passed = r.passed;

@@ -5,7 +5,7 @@ use Rattle.cqs_resume.specs.declared.resumed.Resumed.{Resumed}
 use Rattle.cqs_resume.specs.declared.resumed.Resumed.TheVariants as resumed
 use Rattle.cqs_resume.specs.Resumes.{Resumes, most_passed_over}
 use Rattle.cqs_rule.specs.declared.queue.tokens.Under.{Under}
-use Rattle.cqs_views.specs.declared.view.View.{View}
+use Rattle.cqs_rule_laws.specs.declared.view.View.{View}
 use Rattle.cqs_rule.specs.Owed.{HasUnder, under_payload, under_ticket, under_reached}
 use Rattle.cqs_barrier.specs.Barrier.{barrier_object}
 use Rattle.cqs_barrier.specs.Causes.{primitive_of}

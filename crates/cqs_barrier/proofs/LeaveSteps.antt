@@ -7,19 +7,21 @@ use Rattle.cqs_barrier_object.specs.declared.entries.BarrierEntry.{BarrierEntry}
 use Rattle.cqs_barrier_object.specs.declared.entries.BarrierEntry.TheVariants as entry
 use Rattle.cqs_barrier_object.specs.BarrierEntries.{IsLegal, object_after}
 use Rattle.cqs_barrier_object.proofs.Conserved.{never-legal}
-use Rattle.cqs_views.specs.declared.config.Place.{Place}
-use Rattle.cqs_views.specs.declared.view.Facts.{Facts}
-use Rattle.cqs_views.specs.declared.view.Has.{Has as OwnHas}
-use Rattle.cqs_views.specs.declared.view.Opening.{Opening}
-use Rattle.cqs_views.specs.declared.view.View.{View}
-use Rattle.cqs_views.specs.Called.{Called}
-use Rattle.cqs_views.specs.Events.{in_any_case, where_found, facts_moved, moment}
-use Rattle.cqs_views.specs.Layout.{client_place}
-use Rattle.cqs_views.specs.Lists.{IsPrefix, without}
-use Rattle.cqs_views.specs.Placed.{KnowsPlace}
-use Rattle.cqs_views.specs.Ruled.{number_at}
-use Rattle.cqs_views.specs.Saw.{Saw}
-use Rattle.cqs_views.proofs.Calls.{called-by, called-then}
+use Rattle.cqs_rule_laws.specs.declared.config.Place.{Place}
+use Rattle.cqs_rule_laws.specs.declared.view.Facts.{Facts}
+use Rattle.cqs_rule_laws.specs.declared.view.Has.{Has as OwnHas}
+use Rattle.cqs_rule_laws.specs.declared.view.Opening.{Opening}
+use Rattle.cqs_rule_laws.specs.declared.view.View.{View}
+use Rattle.cqs_rule_laws.specs.Called.{Called}
+use Rattle.cqs_rule_laws.specs.Events.{in_any_case, where_found, facts_moved, moment}
+use Rattle.cqs_rule_laws.specs.Layout.{client_place}
+use Rattle.cqs_rule_laws.specs.Lists.{IsPrefix, without}
+use Rattle.cqs_rule_laws.specs.Placed.{KnowsPlace}
+use Rattle.cqs_rule_laws.specs.Ruled.{number_at}
+use Rattle.cqs_rule_laws.specs.Saw.{Saw}
+use Rattle.cqs_rule_laws.proofs.Calls.{called-by, called-then}
+use Rattle.cqs_rule_laws.proofs.Lists.{prefix-then}
+use Rattle.cqs_rule_laws.proofs.Prefixes.{prefix-same, saw-prefix}
 use Rattle.cqs_rule.proofs.Places.{knows-saw}
 use Rattle.cqs_cell.specs.Transitions.{MadeBy}
 use Rattle.cqs_core.specs.QueueSteps.{settles, settles_owing, refuses, refuses_value, row_of}
@@ -30,18 +32,7 @@ use Rattle.cqs_barrier.specs.Causes.{primitive_of}
 use Rattle.cqs_barrier.specs.Leaving.{HasLeaving, HasLoaded, LookedAt, RemainingWas, WasSome, WasNone, WasContended, Out, look_entries}
 use Rattle.cqs_barrier.specs.Word.{parties_in, remaining_in, is_over}
 
-module _ {A : Type 0} where
-  pub prefix-same : (l : List A) → IsPrefix l l
-  prefix-same l = ([], sym (append-nil l))
-
-  pub prefix-then : (a b c : List A) → IsPrefix a b → IsPrefix b c → IsPrefix a c
-  prefix-then a b c p q = (p.0 ++ q.0, q.1 ∙ (ap (λ l. l ++ q.0) p.1 ∙ append_assoc a p.0 q.0))
-
 module _ {T : Type 0} where
-  pub saw-prefix : (v w : View BarrierEntry T) (f : Facts) (es : List BarrierEntry) → Saw barrier_object v f es w
-      → IsPrefix v.seen w.seen
-  saw-prefix v w f es s = (s.between ++ es, s.seen ∙ append_assoc v.seen s.between es)
-
   -- what was found at a step from u to x, where the call had come to u and goes on from x
   pub remaining-was : (v u x w : View BarrierEntry T) (f : Facts) (es before : List BarrierEntry) (n : ℕ)
       → IsPrefix v.seen u.seen → Saw barrier_object u f es x → x.seen ≡ before ++ es
@@ -192,7 +183,7 @@ module _ {T : Type 0} where
     record {
       before = l.before;
       found = remaining-was v v u w _ _ l.before 0 (prefix-same v.seen) l.saw l.seen (sym none ∙ l.remaining)
-          (saw-prefix u w _ _ c.saw) c.saw.same.opening;
+          (saw-prefix barrier_object u w _ _ c.saw) c.saw.same.opening;
     },
   )
 
@@ -207,8 +198,8 @@ module _ {T : Type 0} where
       called-then barrier_object v x w _ _ _ []
       (called-then barrier_object v u x _ [] _ _ (called-by barrier_object v u _ [] l.saw) s.saw) c.saw in
       let found : RemainingWas v (remaining_in m) s.before (entry.Withdraw u.number k ∷ []) w =
-      remaining-was v u x w _ _ s.before (remaining_in m) (saw-prefix v u _ _ l.saw) s.saw s.seen s.remaining
-      (saw-prefix x w _ _ c.saw) c.saw.same.opening in (
+      remaining-was v u x w _ _ s.before (remaining_in m) (saw-prefix barrier_object v u _ _ l.saw) s.saw s.seen
+      s.remaining (saw-prefix barrier_object x w _ _ c.saw) c.saw.same.opening in (
         record {
           called = subst (λ p. Called barrier_object v (entry.Withdraw p k ∷ []) [] w) number called;
           doing_is = c.doing_is;
@@ -252,7 +243,7 @@ module _ {T : Type 0} where
           differ = differ;
           before = l.before;
           loaded = remaining-was v v u x _ [] l.before (remaining_in n) (prefix-same v.seen) l.saw l.seen l.remaining
-              (saw-prefix u x _ _ s.saw) s.saw.same.opening;
+              (saw-prefix barrier_object u x _ _ s.saw) s.saw.same.opening;
           exchanged = s.remaining
               ∙ ap (λ h. (object_after x.opening.size h).remaining) (sym whole);
           beside = λ alone.

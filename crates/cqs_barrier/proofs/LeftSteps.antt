@@ -5,21 +5,24 @@ use Rattle.cqs_core.specs.QueueSteps.{starts_leaving, row_of}
 use Rattle.cqs_barrier_object.specs.declared.entries.BarrierEntry.{BarrierEntry}
 use Rattle.cqs_barrier_object.specs.declared.entries.BarrierEntry.TheVariants as entry
 use Rattle.cqs_barrier_object.specs.BarrierEntries.{IsLegal}
-use Rattle.cqs_views.specs.declared.view.Facts.{Facts}
-use Rattle.cqs_views.specs.declared.view.View.{View}
-use Rattle.cqs_views.specs.Called.{Called}
-use Rattle.cqs_views.specs.Lists.{Has, without}
-use Rattle.cqs_views.proofs.Calls.{called-none, called-by, called-and}
+use Rattle.cqs_barrier_object.specs.BarrierNames.{entry_names}
+use Rattle.cqs_rule_laws.specs.declared.view.Facts.{Facts}
+use Rattle.cqs_rule_laws.specs.declared.view.View.{View}
+use Rattle.cqs_rule_laws.specs.Called.{Called}
+use Rattle.cqs_rule_laws.specs.Lists.{Has, without}
+use Rattle.cqs_rule_laws.proofs.Calls.{called-none, called-by, called-and}
 use Rattle.cqs_cell.specs.Transitions.{MadeBy}
 use Rattle.cqs_cancel.specs.Cancels.{CameLate}
 use Rattle.cqs_barrier.specs.declared.answers.PartyLeft.{PartyLeft}
 use Rattle.cqs_barrier.specs.declared.answers.PartyLeft.TheVariants.{Withdrawn, TooLate, Contended}
 use Rattle.cqs_barrier.specs.Barrier.{barrier_object}
-use Rattle.cqs_barrier.specs.Calls.{IsReady, CallRule}
+use Rattle.cqs_rule_laws.specs.CallRule.{IsReady}
+use Rattle.cqs_barrier.specs.Calls.{CallRule}
 use Rattle.cqs_barrier.specs.Causes.{primitive_of}
 use Rattle.cqs_barrier.specs.Leaving.{RemainingWas, Leaves, HasLeft, leaving_at}
-use Rattle.cqs_barrier.proofs.LeaveSteps.{prefix-then}
-use Rattle.cqs_barrier.proofs.Rules.{AllName, call-rule_own}
+use Rattle.cqs_rule_laws.proofs.Lists.{prefix-then}
+use Rattle.cqs_rule_laws.proofs.Rules.{AllName, call-rule_own}
+use Rattle.cqs_cancel.proofs.Outs.{late-cell, late-rests}
 
 module _ {T : Type 0} where
   -- how a call came to where its leaving goes on: with no entry, and with what the pass has and waits for
@@ -66,9 +69,9 @@ module _ {T : Type 0} where
   }
 
   rule : (v u w : View BarrierEntry T) (own : List BarrierEntry) → Starts v u → Called barrier_object u own [] w
-      → AllName v.number own → Has v.number v.own → IsLegal w.opening.size w.seen → CallRule v own [] w
+      → AllName entry_names v.number own → Has v.number v.own → IsLegal w.opening.size w.seen → CallRule v own [] w
   rule v u w own s c all has legal =
-      call-rule_own v w own [] (called-and barrier_object v u w [] [] own [] s.called c) all has legal
+      call-rule_own barrier_object v w own [] (called-and barrier_object v u w [] [] own [] s.called c) all has legal
 
   pub left-so : (k : ℕ) (answer : PartyLeft) (v u w : View BarrierEntry T) → Starts v u → Has v.number v.own
       → IsLegal w.opening.size w.seen → Leaves k u answer w → HasLeft k v answer w
@@ -132,23 +135,8 @@ module _ {T : Type 0} where
   -- the cell was found served
   pub came-too-late : (k payload : ℕ) (v w : View BarrierEntry T) → IsReady v.facts → Has v.number v.own
       → IsLegal w.opening.size w.seen → CameLate barrier_object primitive_of k payload v w → HasLeft k v TooLate w
-  came-too-late k payload v w ready has legal l =
-      let is = l.facts_are in
-      inr (
-        call-rule_own v w (entry.Late v.number k ∷ []) _ l.called (λ n. refl, tt) has legal,
-        record {
-          ready = record {
-            idle = ap (λ (f : Facts). f.doing) is;
-            further = ap (λ (f : Facts). f.has.further) is ∙ ready.further;
-          };
-          held_is = ap (λ (f : Facts). f.has.held) is;
-          waits_are = ap (λ (f : Facts). f.waits) is;
-        },
-        record {
-          word = l.word;
-          payload = payload;
-          cell = l.cell;
-          found = (_, ap (λ (f : Facts). f.found) is);
-          was = l.was;
-        },
-      )
+  came-too-late k payload v w ready has legal l = inr (
+    call-rule_own barrier_object v w (entry.Late v.number k ∷ []) _ l.called (λ n. refl, tt) has legal,
+    late-rests barrier_object primitive_of k payload v w l ready,
+    (late-cell barrier_object primitive_of k payload v w l).0,
+  )

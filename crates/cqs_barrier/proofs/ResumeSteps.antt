@@ -11,45 +11,25 @@ use Rattle.cqs_barrier_object.specs.declared.entries.BarrierEntry.TheVariants as
 use Rattle.cqs_barrier_object.specs.BarrierEntries.{IsLegal}
 use Rattle.cqs_barrier_object.specs.BarrierSteps.{step_entries}
 use Rattle.cqs_rule.specs.declared.queue.tokens.Under.{Under}
-use Rattle.cqs_views.specs.declared.view.Facts.{Facts}
-use Rattle.cqs_views.specs.declared.view.View.{View}
-use Rattle.cqs_views.specs.Called.{Called}
-use Rattle.cqs_views.specs.Counts.{Drew}
-use Rattle.cqs_views.proofs.Calls.{called-none, called-by, called-and}
+use Rattle.cqs_rule_laws.specs.declared.view.Facts.{Facts}
+use Rattle.cqs_rule_laws.specs.declared.view.View.{View}
+use Rattle.cqs_rule_laws.specs.Called.{Called}
+use Rattle.cqs_rule_laws.specs.Counts.{Drew}
+use Rattle.cqs_rule_laws.proofs.Calls.{called-none, called-by, called-and}
+use Rattle.cqs_rule_laws.proofs.Rules.{called-weak}
 use Rattle.cqs_resume.specs.declared.resumed.Resumed.TheVariants as resumed
 use Rattle.cqs_resume.specs.Resumes.{Ended, Resumes}
-use Rattle.cqs_resume.specs.Rounds.{Round, draw_entries, round_entries, over_entries, drawn_in, one_if, numbers}
+use Rattle.cqs_resume.specs.Rounds.{numbers}
+use Rattle.cqs_resume.proofs.Ends.{IsQuiet, ended-at, handed-back, drawn-few}
 use Rattle.cqs_barrier.specs.Barrier.{barrier_object}
 use Rattle.cqs_barrier.specs.Calls.{waiting_in}
 use Rattle.cqs_barrier.specs.Causes.{primitive_of}
 use Rattle.cqs_barrier.proofs.AloneOrder.{KnowsAlone, none-served, one-served}
 use Rattle.cqs_barrier.specs.Resuming.{most_passed_over, OwesMore, Ran, RanNext, RanAll}
-use Rattle.cqs_barrier.proofs.Rules.{called-weak}
 
--- a round of a barrier's resumption shows no entry but that of its last step
-draw-none : (p payload : ℕ) (drawn : Bool) (k : ℕ) → draw_entries barrier_object p payload drawn k ≡ []
-draw-none p payload true k = refl
-draw-none p payload false k = refl
-
-over-none : (p payload : ℕ) (over : List Round) → over_entries barrier_object p payload over ≡ []
-over-none p payload [] = refl
-over-none p payload (r ∷ over) =
-    λ i. (draw-none p payload r.drawn r.number i ++ []) ++ over-none p payload over i
-
-entries-last : (p payload k : ℕ) (s : QueueStep) (over : List Round) (last : Round) → last.number ≡ k
-    → over_entries barrier_object p payload over ++ round_entries barrier_object p payload s last
-    ≡ step_entries s p k
-entries-last p payload k s over last is =
-    λ i. over-none p payload over i ++ (draw-none p payload last.drawn last.number i ++ step_entries s p (is i))
-
--- each number that was drawn is one of those that were passed over
-one-few : (b : Bool) → one_if b ≤ 1
-one-few true = omega arith
-one-few false = omega arith
-
-drawn-few : (over : List Round) → drawn_in over ≤ length (numbers over)
-drawn-few [] = omega arith
-drawn-few (r ∷ over) = let first = one-few r.drawn in let later = drawn-few over in omega arith
+-- a resumption that goes on shows no entry but that of its last step
+quiet : IsQuiet barrier_object
+quiet = record { drawing = λ p k payload. refl; passing = λ p k payload. refl }
 
 pub delivers-append : (js ks : List ℕ) → delivers js ++ delivers ks ≡ delivers (js ++ ks)
 delivers-append [] ks = refl
@@ -64,27 +44,25 @@ module _ {T : Type 0} where
       → (Called barrier_object v (delivers ks) [] w → w.facts.doing ≡ doing.Idle → v.alone ≡ true
       → waiting_in v ≡ ks ++ waiting_in w)
       → RanNext left v None w
-  ended s state ticket k left ks v w e is further payload order = (
-    ks,
-    numbers e.over,
-    record {
-      called = called-weak v w (delivers ks) _
-          (subst (λ es. Called barrier_object v es (step_entries s v.number k) w)
-          (entries-last v.number 0 k s e.over e.last e.number ∙ is) e.called);
-      in_order = order (called-weak v w (delivers ks) _
-          (subst (λ es. Called barrier_object v es (step_entries s v.number k) w)
-          (entries-last v.number 0 k s e.over e.last e.number ∙ is) e.called))
-          (ap (λ (f : Facts). f.doing) e.facts_are);
-      held = ap (λ (f : Facts). f.has.held) e.facts_are;
-      waits = ap (λ (f : Facts). f.waits) e.facts_are;
-      passed = ap (λ (f : Facts). f.passed) e.facts_are;
-    },
-    record {
-      idle = ap (λ (f : Facts). f.doing) e.facts_are;
-      further = ap (λ (f : Facts). f.has.further) e.facts_are ∙ further;
-      payload = ap (λ (f : Facts). f.has.payload) e.facts_are ∙ payload;
-    },
-  )
+  ended s state ticket k left ks v w e is further payload order =
+      let a = ended-at barrier_object primitive_of quiet s state most_passed_over ticket 0 k v w e in
+      let called : Called barrier_object v (delivers ks) [] w =
+      subst (λ es. Called barrier_object v es [] w) is (called-weak barrier_object v w _ _ a.called) in (
+        ks,
+        numbers e.over,
+        record {
+          called = called;
+          in_order = order called a.idle;
+          held = ap (λ h. h.held) a.has;
+          waits = a.waits;
+          passed = a.passed;
+        },
+        record {
+          idle = a.idle;
+          further = ap (λ h. h.further) a.has ∙ further;
+          payload = ap (λ h. h.payload) a.has ∙ payload;
+        },
+      )
 
   module _ (ticket : Option ℕ) (left : ℕ) (v w : View BarrierEntry T) (further : v.facts.has.further ≡ left)
       (payload : v.facts.has.payload ≡ 0) where
@@ -110,22 +88,21 @@ module _ {T : Type 0} where
     pub ran-under : (under : Under)
         → Resumes barrier_object primitive_of most_passed_over ticket 0 v (resumed.Under under) w
         → RanNext left v (Some under) w
-    ran-under under e = (
-      numbers e.over,
-      record {
-        called = called-weak v w [] _
-            (subst (λ es. Called barrier_object v es [] w) (over-none v.number 0 e.over) e.called);
-        in_order = none-served v w (called-weak v w [] _
-            (subst (λ es. Called barrier_object v es [] w) (over-none v.number 0 e.over) e.called));
-        held = ap (λ (f : Facts). f.has.held) e.facts_are;
-        waits = ap (λ (f : Facts). f.waits) e.facts_are;
-        passed = ap (λ (f : Facts). f.passed) e.facts_are;
-      },
-      (let few = drawn-few e.over in let all = e.all in omega arith),
-      e.has,
-      ap (λ (f : Facts). f.has.further) e.facts_are ∙ further,
-      e.payload_is,
-    )
+    ran-under under e =
+        let h = handed-back barrier_object primitive_of quiet most_passed_over ticket 0 under v w e in (
+          numbers e.over,
+          record {
+            called = h.called;
+            in_order = none-served v w h.called;
+            held = ap (λ h. h.held) h.has;
+            waits = h.waits;
+            passed = h.passed;
+          },
+          (let few = drawn-few e.over in let all = e.all in omega arith),
+          e.has,
+          ap (λ h. h.further) h.has ∙ further,
+          e.payload_is,
+        )
 
   -- one run after another
   pub ran-then : (js ks over more : List ℕ) (v u w : View BarrierEntry T) → Ran js over v u → Ran ks more u w

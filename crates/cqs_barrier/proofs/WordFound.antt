@@ -3,12 +3,12 @@ use Rattle.std.proofs.Common.{◌≡◌, ℕ, Bool, List, refl, sym, ap, ◌∙�
 use Rattle.cqs_barrier_object.specs.declared.entries.BarrierEntry.{BarrierEntry}
 use Rattle.cqs_barrier_object.specs.BarrierEntries.{object_after}
 use Rattle.cqs_barrier_object.specs.BarrierObject.{Barrier}
-use Rattle.cqs_views.specs.declared.view.View.{View}
-use Rattle.cqs_views.specs.declared.view.Opening.{Opening}
-use Rattle.cqs_views.specs.Events.{Event, Moved, HasWord}
-use Rattle.cqs_views.specs.Layout.{client_place}
-use Rattle.cqs_views.specs.Object.{Primitive}
-use Rattle.cqs_views.specs.Saw.{WasShown}
+use Rattle.cqs_rule_laws.specs.declared.view.View.{View}
+use Rattle.cqs_rule_laws.specs.declared.view.Opening.{Opening}
+use Rattle.cqs_rule_laws.specs.Events.{Event, Moved, HasWord}
+use Rattle.cqs_rule_laws.specs.Layout.{client_place}
+use Rattle.cqs_rule_laws.specs.Object.{Primitive}
+use Rattle.cqs_rule_laws.specs.Saw.{WasShown}
 use Rattle.cqs_barrier.specs.declared.client.BarrierClient.{BarrierClient}
 use Rattle.cqs_barrier.specs.Barrier.{barrier_object, barrier_primitive}
 use Rattle.cqs_barrier.specs.BarrierWord.{OnWord}

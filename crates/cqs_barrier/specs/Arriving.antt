@@ -6,17 +6,18 @@ use Rattle.cqs_barrier_object.specs.declared.entries.BarrierEntry.{BarrierEntry}
 use Rattle.cqs_barrier_object.specs.SoleCaller.{delivers}
 use Rattle.cqs_barrier_object.specs.declared.entries.BarrierEntry.TheVariants as entry
 use Rattle.cqs_barrier_object.specs.BarrierEntries.{object_after}
-use Rattle.cqs_views.specs.declared.view.View.{View}
-use Rattle.cqs_views.specs.Facts.{facts_counted}
-use Rattle.cqs_views.specs.Lists.{IsPrefix}
-use Rattle.cqs_views.specs.Saw.{Saw}
+use Rattle.cqs_rule_laws.specs.declared.view.View.{View}
+use Rattle.cqs_rule_laws.specs.Facts.{facts_counted}
+use Rattle.cqs_rule_laws.specs.Lists.{IsPrefix}
+use Rattle.cqs_rule_laws.specs.Saw.{Saw}
 use Rattle.cqs_rule.specs.Waits.{place_of, HasWait}
 use Rattle.cqs_suspend.specs.Suspends.{EndsBy}
 use Rattle.cqs_barrier.specs.declared.answers.Arrived.{Arrived}
 use Rattle.cqs_barrier.specs.declared.answers.Arrived.TheVariants.{Last, LastOwing, Later}
 use Rattle.cqs_barrier.specs.declared.answers.Owing.{Owing}
 use Rattle.cqs_barrier.specs.Barrier.{barrier_object}
-use Rattle.cqs_barrier.specs.Calls.{CallRule, IsReady, Rests, plain_after}
+use Rattle.cqs_rule_laws.specs.CallRule.{IsReady}
+use Rattle.cqs_barrier.specs.Calls.{CallRule, Rests, plain_after}
 use Rattle.cqs_barrier.specs.Causes.{primitive_of, CellWas}
 use Rattle.cqs_barrier.specs.Leaving.{RemainingWas}
 use Rattle.cqs_barrier.specs.Resuming.{HasOwing, most_passed_over}

@@ -8,14 +8,14 @@ use Rattle.cqs_barrier_object.specs.BarrierEntries.{IsLegal}
 use Rattle.cqs_barrier_object.specs.BarrierNames.{entry_names}
 use Rattle.cqs_barrier_object.specs.BarrierShown.{Shape, IsBarrier}
 use Rattle.cqs_barrier_object.specs.BarrierSteps.{step_entries}
-use Rattle.cqs_views.specs.declared.view.Has.{Has}
-use Rattle.cqs_views.specs.declared.config.CancelMode.TheVariants.{Smart}
-use Rattle.cqs_views.specs.Events.{Event}
-use Rattle.cqs_views.specs.Hidden.{Hidden, Gains}
-use Rattle.cqs_views.specs.Manner.{Manner, asks, owed_further}
-use Rattle.cqs_views.specs.Object.{Object, Primitive}
-use Rattle.cqs_views.specs.Ruled.{number_at}
-use Rattle.cqs_views.specs.Held.{held_of}
+use Rattle.cqs_rule_laws.specs.declared.view.Has.{Has}
+use Rattle.cqs_rule_laws.specs.declared.config.CancelMode.TheVariants.{Smart}
+use Rattle.cqs_rule_laws.specs.Events.{Event}
+use Rattle.cqs_rule_laws.specs.Hidden.{Hidden, Gains}
+use Rattle.cqs_rule_laws.specs.Manner.{Manner, asks, owed_further}
+use Rattle.cqs_rule_laws.specs.Object.{Object, Primitive}
+use Rattle.cqs_rule_laws.specs.Ruled.{number_at}
+use Rattle.cqs_rule_laws.specs.Held.{held_of}
 use Rattle.cqs_barrier.specs.Word.{word_of, parties_in, remaining_in, is_over, is_last}
 
 -- how many further resumptions each pass owes

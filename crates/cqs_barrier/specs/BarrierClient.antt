@@ -18,15 +18,15 @@ use Rattle.cqs_barrier_object.specs.BarrierSteps.{IsBarrierStep, step_entries, a
 use Rattle.cqs_barrier_object.proofs.Fits.{barrier-reaches_few, barrier-begins_few, barrier-held_few}
 use Rattle.cqs_barrier_object.proofs.Steps.{step-keeps}
 use Rattle.cqs_barrier_object.proofs.WordSteps.{barrier-opens, handover-keeps}
-use Rattle.cqs_views.specs.declared.view.Has.{Has}
-use Rattle.cqs_views.specs.Client.{IsClient, IsBegun, IsPaid, IsPayload, begun_by}
-use Rattle.cqs_views.specs.Hidden.{Hidden, hidden_after, has_after, has_gained, has_paid, has_both, has_none, hands_over}
-use Rattle.cqs_views.specs.Lists.{NamesOnly}
-use Rattle.cqs_views.specs.Manner.{Suits}
-use Rattle.cqs_views.specs.Opened.{first_hidden, four}
-use Rattle.cqs_views.specs.Held.{held_of}
-use Rattle.cqs_views.proofs.Held.{held-at, held-is, held-set, held-kept}
-use Rattle.cqs_views.specs.Views.{first_has}
+use Rattle.cqs_rule_laws.specs.declared.view.Has.{Has}
+use Rattle.cqs_rule_laws.specs.Client.{IsClient, IsBegun, IsPaid, IsPayload, begun_by}
+use Rattle.cqs_rule_laws.specs.Hidden.{Hidden, hidden_after, has_after, has_gained, has_paid, has_both, has_none, hands_over}
+use Rattle.cqs_rule_laws.specs.Lists.{NamesOnly}
+use Rattle.cqs_rule_laws.specs.Manner.{Suits}
+use Rattle.cqs_rule_laws.specs.Opened.{first_hidden, four}
+use Rattle.cqs_rule_laws.specs.Held.{held_of}
+use Rattle.cqs_rule_laws.proofs.Held.{held-at, held-is, held-set, held-kept}
+use Rattle.cqs_rule_laws.specs.Views.{first_has}
 use Rattle.cqs_barrier.specs.Barrier.{further_of, barrier_shown, ShowsBarrier, no_more, barrier_object, barrier_manner, barrier_primitive}
 use Rattle.cqs_barrier.specs.Word.{word_of, parties_in, remaining_in}
 

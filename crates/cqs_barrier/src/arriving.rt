@@ -5,7 +5,8 @@ ghost use Rattle.cqs_core.specs.declared.doings.Doing.TheVariants as doing;
 ghost use Rattle.cqs_rule.specs.Passes.{pass_view};
 ghost use Rattle.cqs_barrier.specs.Alone.{IsPlainArrive, IsPlainFinish};
 ghost use Rattle.cqs_barrier.specs.Arriving.{Arrives, EndsAtCell, Finishes, IsWorn, IsBelow, NextIs, WaitsForOthers};
-ghost use Rattle.cqs_barrier.specs.Calls.{IsReady, IsMine};
+ghost use Rattle.cqs_rule_laws.specs.CallRule.{IsReady};
+ghost use Rattle.cqs_barrier.specs.Calls.{IsMine};
 ghost use Rattle.cqs_barrier.specs.Resuming.{HasOwing, owing_reached};
 
 use crate::answers::{Arrived, Owing, PartyWait};

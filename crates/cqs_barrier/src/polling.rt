@@ -1,13 +1,14 @@
 //! The look at a wait.
 
 ghost use Rattle.std.specs.Prelude.{◌≡◌, [], true};
-ghost use Rattle.cqs_views.specs.Lists.{Has};
+ghost use Rattle.cqs_rule_laws.specs.Lists.{Has};
 ghost use Rattle.cqs_rule.specs.Passes.{pass_view};
-ghost use Rattle.cqs_views.specs.Placed.{KnowsPlace};
+ghost use Rattle.cqs_rule_laws.specs.Placed.{KnowsPlace};
 ghost use Rattle.cqs_rule.specs.Waits.{place_of, HasWait};
 ghost use Rattle.cqs_barrier.specs.Alone.{IsPlainPoll};
 ghost use Rattle.cqs_barrier.specs.Answers.{IsPolled};
-ghost use Rattle.cqs_barrier.specs.Calls.{IsReady, IsMine, CallRule};
+ghost use Rattle.cqs_rule_laws.specs.CallRule.{IsReady};
+ghost use Rattle.cqs_barrier.specs.Calls.{IsMine, CallRule};
 ghost use Rattle.cqs_barrier.specs.Entries.{polled_entries};
 ghost use Rattle.cqs_barrier.specs.Waits.{wait_in};
 

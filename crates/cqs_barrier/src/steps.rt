@@ -3,7 +3,7 @@
 
 ghost use Rattle.std.specs.Prelude.{◌≡◌, ◌+◌, ◌<◌, ◌^◌, true};
 ghost use Rattle.cqs_core.specs.declared.doings.Doing.TheVariants.{Idle, Leaving};
-ghost use Rattle.cqs_views.specs.Events.{in_any_case, where_found};
+ghost use Rattle.cqs_rule_laws.specs.Events.{in_any_case, where_found};
 ghost use Rattle.cqs_rule.specs.Passes.{pass_view, IsOf};
 ghost use Rattle.cqs_barrier.specs.Barrier.{arrives, looks_to_leave, withdraws};
 ghost use Rattle.cqs_barrier.specs.BarrierWord.{OnWord};

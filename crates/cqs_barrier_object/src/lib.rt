@@ -1,4 +1,9 @@
-//! The barrier as a plain object: its entries, its laws, and what a queue shows of it.
+//! The barrier as a plain object: what it is to its users, the entries of its history, and what a
+//! queue with a remaining number shows of it.
+//!
+//! The object has how many parties are still to arrive, how many resumptions are on their way, the
+//! line of waiters, and the waits of those who came too late to withdraw. Each law is a function
+//! that does nothing: a law is proved where the contract of a function says it.
 #![tactic(auto)]
 
 mod entries;

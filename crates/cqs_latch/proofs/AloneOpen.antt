@@ -19,17 +19,18 @@ use Rattle.cqs_latch_object.specs.declared.entries.LatchEntry.TheVariants as ent
 use Rattle.cqs_latch_object.specs.LatchEntries.{object_after, after_entry}
 use Rattle.cqs_latch_object.specs.LatchObject.{Latch, opening}
 use Rattle.cqs_latch_object.specs.LatchShown.{IsLatch, IsOpened, as_read, read_as, shown_latch}
-use Rattle.cqs_views.specs.declared.view.Has.{Has}
-use Rattle.cqs_views.specs.declared.view.Opening.{Opening}
-use Rattle.cqs_views.specs.declared.view.View.{View}
-use Rattle.cqs_views.specs.Alone.{IsAlone, TellsAlone}
+use Rattle.cqs_rule_laws.specs.declared.view.Has.{Has}
+use Rattle.cqs_rule_laws.specs.declared.view.Opening.{Opening}
+use Rattle.cqs_rule_laws.specs.declared.view.View.{View}
+use Rattle.cqs_rule_laws.specs.Alone.{IsAlone, TellsAlone}
 use Rattle.cqs_rule.specs.Owed.{HasUnder, owes_at}
 use Rattle.cqs_rule.specs.declared.queue.tokens.Under.{Under}
 use Rattle.cqs_latch.specs.declared.answers.Down.{Down}
 use Rattle.cqs_latch.specs.declared.answers.Down.TheVariants as down
 use Rattle.cqs_latch.specs.declared.answers.Owed.{Owed}
 use Rattle.cqs_latch.specs.Alone.{plain_after, HasServedAll, IsPlainFinish, IsPlainOpening}
-use Rattle.cqs_latch.specs.Calls.{CallRuleEnding, IsReady}
+use Rattle.cqs_rule_laws.specs.CallRule.{IsReady}
+use Rattle.cqs_latch.specs.Calls.{CallRuleEnding}
 use Rattle.cqs_latch.specs.Causes.{primitive_of}
 use Rattle.cqs_latch.specs.CountAnswers.{HasCounted, HasFinished}
 use Rattle.cqs_latch.specs.Latch.{further_of, is_simple, latch_shown}

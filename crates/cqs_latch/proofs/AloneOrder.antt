@@ -6,7 +6,7 @@ use Rattle.std.proofs.lemmas.List.Sums.{fold-append}
 use Rattle.cqs_core.specs.declared.doings.Doing.TheVariants as doing
 use Rattle.cqs_core.specs.QueueLine.{Waiting}
 use Rattle.cqs_core.specs.QueueWaiters.{IsServed, Waiters, waiters, is_reached}
-use Rattle.cqs_latch.proofs.AheadLines.{line-rises, number_in, numbers_in, served-first, served-past}
+use Rattle.cqs_core.proofs.IdleLines.{line-rises, number_in, numbers_in, served-first, served-past}
 use Rattle.cqs_core.proofs.Places.{get-push_at}
 use Rattle.cqs_core.proofs.Rising.{IsRising}
 use Rattle.cqs_latch_object.specs.declared.entries.LatchEntry.{LatchEntry}
@@ -19,10 +19,10 @@ use Rattle.cqs_resume.specs.declared.resumed.Resumed.TheVariants as resumed
 use Rattle.cqs_resume.specs.Begins.{Begun}
 use Rattle.cqs_resume.specs.Resumes.{Resumes, most_passed_over}
 use Rattle.cqs_rule.specs.declared.queue.tokens.Under.{Under}
-use Rattle.cqs_views.specs.declared.view.Opening.{Opening}
-use Rattle.cqs_views.specs.declared.view.View.{View}
-use Rattle.cqs_views.specs.Alone.{IsAlone, TellsAlone}
-use Rattle.cqs_views.specs.Called.{Called}
+use Rattle.cqs_rule_laws.specs.declared.view.Opening.{Opening}
+use Rattle.cqs_rule_laws.specs.declared.view.View.{View}
+use Rattle.cqs_rule_laws.specs.Alone.{IsAlone, TellsAlone}
+use Rattle.cqs_rule_laws.specs.Called.{Called}
 use Rattle.cqs_rule.specs.Owed.{under_payload, under_ticket}
 use Rattle.cqs_latch.specs.declared.answers.Down.TheVariants as down
 use Rattle.cqs_latch.specs.Alone.{FinishesInOrder, HasServedAll, OpensInOrder, ServesFirst, delivers, plain_after, waiting_in}

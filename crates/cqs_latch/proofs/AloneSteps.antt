@@ -8,13 +8,13 @@ use Rattle.cqs_latch_object.specs.declared.entries.LatchEntry.{LatchEntry}
 use Rattle.cqs_latch_object.specs.declared.entries.LatchEntry.TheVariants as entry
 use Rattle.cqs_latch_object.specs.LatchEntries.{object_after, after_entry, IsLegal, IsAllowed}
 use Rattle.cqs_latch_object.specs.LatchObject.{Latch, opening}
-use Rattle.cqs_views.specs.declared.config.AcquireError.{AcquireError}
-use Rattle.cqs_views.specs.declared.config.AcquireError.TheVariants as error
-use Rattle.cqs_views.specs.declared.view.Opening.{Opening}
-use Rattle.cqs_views.specs.declared.view.View.{View}
-use Rattle.cqs_views.specs.Lists.{IsPrefix}
+use Rattle.cqs_rule_laws.specs.declared.config.AcquireError.{AcquireError}
+use Rattle.cqs_rule_laws.specs.declared.config.AcquireError.TheVariants as error
+use Rattle.cqs_rule_laws.specs.declared.view.Opening.{Opening}
+use Rattle.cqs_rule_laws.specs.declared.view.View.{View}
+use Rattle.cqs_rule_laws.specs.Lists.{IsPrefix}
 use Rattle.cqs_rule.specs.Waits.{place_of}
-use Rattle.cqs_views.specs.declared.config.CancelMode.{CancelMode}
+use Rattle.cqs_rule_laws.specs.declared.config.CancelMode.{CancelMode}
 use Rattle.cqs_latch.specs.declared.answers.Down.{Down}
 use Rattle.cqs_latch.specs.declared.answers.Down.TheVariants as down
 use Rattle.cqs_latch.specs.declared.answers.LatchLeft.{LatchLeft}

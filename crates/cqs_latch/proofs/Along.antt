@@ -5,17 +5,20 @@ use Rattle.std.proofs.lemmas.List.{append-nil, append_cancel_right}
 use Rattle.cqs_latch_object.specs.declared.entries.LatchEntry.{LatchEntry}
 use Rattle.cqs_latch_object.specs.LatchObject.{Latch}
 use Rattle.cqs_latch_object.specs.LatchEntries.{object_after}
-use Rattle.cqs_views.specs.declared.view.Facts.{Facts}
-use Rattle.cqs_views.specs.declared.view.Opening.{Opening}
-use Rattle.cqs_views.specs.declared.view.Sighting.{Sighting}
-use Rattle.cqs_views.specs.declared.view.Sighting.TheVariants.{Word}
-use Rattle.cqs_views.specs.declared.view.View.{View}
-use Rattle.cqs_views.specs.Called.{Called}
-use Rattle.cqs_views.specs.Events.{Event}
-use Rattle.cqs_views.specs.Layout.{suspends_place, client_place}
-use Rattle.cqs_views.specs.Lists.{IsPrefix}
-use Rattle.cqs_views.specs.Saw.{Saw}
-use Rattle.cqs_views.proofs.Calls.{called-by, called-then, called-and}
+use Rattle.cqs_rule_laws.specs.declared.view.Facts.{Facts}
+use Rattle.cqs_rule_laws.specs.declared.view.Opening.{Opening}
+use Rattle.cqs_rule_laws.specs.declared.view.Sighting.{Sighting}
+use Rattle.cqs_rule_laws.specs.declared.view.Sighting.TheVariants.{Word}
+use Rattle.cqs_rule_laws.specs.declared.view.View.{View}
+use Rattle.cqs_rule_laws.specs.Called.{Called}
+use Rattle.cqs_rule_laws.specs.Events.{Event}
+use Rattle.cqs_rule_laws.specs.Layout.{suspends_place, client_place}
+use Rattle.cqs_rule_laws.specs.Lists.{IsPrefix}
+use Rattle.cqs_rule_laws.specs.Saw.{Saw}
+use Rattle.cqs_rule_laws.proofs.Calls.{called-by, called-then, called-and}
+use Rattle.cqs_rule_laws.proofs.Causes.{Onward}
+use Rattle.cqs_rule_laws.proofs.Lists.{prefix-then}
+use Rattle.cqs_rule_laws.proofs.Prefixes.{prefix-same}
 use Rattle.cqs_latch.specs.Latch.{is_simple, latch_object}
 use Rattle.cqs_latch.specs.LatchTold.{at_word, OnWord, NextIs}
 use Rattle.cqs_latch.specs.Causes.{WordWas, NextWas}
@@ -24,22 +27,19 @@ use Rattle.cqs_latch.specs.Causes.{WordWas, NextWas}
 abbrev object_of : Opening → List LatchEntry → Latch
 object_of o history = object_after (is_simple o.mode) o.size history
 
-module _ {A : Type 0} where
-  pub prefix-same : (l : List A) → IsPrefix l l
-  prefix-same l = ([], sym (append-nil l))
-
-  pub prefix-then : (a b c : List A) → IsPrefix a b → IsPrefix b c → IsPrefix a c
-  prefix-then a b c p q = (p.0 ++ q.0, q.1 ∙ (ap (λ l. l ++ q.0) p.1 ∙ append_assoc a p.0 q.0))
-
-pub prefix-more : {A : Type 0} (a b c d : List A) → IsPrefix a (((a ++ b) ++ c) ++ d)
-prefix-more a b c d = (b ++ (c ++ d), append_assoc (a ++ b) c d ∙ append_assoc a b (c ++ d))
-
 module _ {T : Type 0} where
   -- From v to u the pass made steps of these entries, the last of which come last, and found these.
   pub record Along (v : View LatchEntry T) (es last : List LatchEntry) (u : View LatchEntry T) : Type 0 where
     pub called : Called latch_object v es last u
     pub found : List Sighting
     pub found_is : u.facts.found ≡ v.facts.found ++ found
+
+  pub along-onward : (v u : View LatchEntry T) (es last : List LatchEntry) → Along v es last u → Onward v u
+  along-onward v u es last a = record {
+    seen = (a.called.more, a.called.seen);
+    found = (a.found, a.found_is);
+    opening = a.called.same.opening;
+  }
 
   pub along-first : (v u : View LatchEntry T) (f : Facts) (es : List LatchEntry) (found : List Sighting)
       → Saw latch_object v f es u → f.found ≡ v.facts.found ++ found → Along v es es u

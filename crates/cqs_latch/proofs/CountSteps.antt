@@ -7,24 +7,25 @@ use Rattle.cqs_latch_object.specs.declared.entries.LatchEntry.{LatchEntry}
 use Rattle.cqs_latch_object.specs.declared.entries.LatchEntry.TheVariants as entry
 use Rattle.cqs_latch_object.specs.LatchShown.{left_of}
 use Rattle.cqs_latch_object.specs.LatchWords.{is_used, is_last, counted_entry, counted_doing}
-use Rattle.cqs_views.specs.declared.view.Facts.{Facts}
-use Rattle.cqs_views.specs.declared.view.Sighting.TheVariants.{Word}
-use Rattle.cqs_views.specs.declared.view.View.{View}
-use Rattle.cqs_views.specs.Events.{facts_moved}
-use Rattle.cqs_views.specs.Layout.{client_place}
-use Rattle.cqs_views.specs.Lists.{Has}
-use Rattle.cqs_views.specs.Saw.{Saw}
+use Rattle.cqs_rule_laws.specs.declared.view.Facts.{Facts}
+use Rattle.cqs_rule_laws.specs.declared.view.Sighting.TheVariants.{Word}
+use Rattle.cqs_rule_laws.specs.declared.view.View.{View}
+use Rattle.cqs_rule_laws.specs.Events.{facts_moved}
+use Rattle.cqs_rule_laws.specs.Layout.{client_place}
+use Rattle.cqs_rule_laws.specs.Lists.{Has}
+use Rattle.cqs_rule_laws.specs.Saw.{Saw}
 use Rattle.cqs_words.specs.State.{count_in, is_above_zero}
 use Rattle.cqs_words.specs.Waiters.{waiters_in}
 use Rattle.cqs_latch.specs.declared.answers.Down.TheVariants.{Left, Already}
-use Rattle.cqs_latch.specs.Calls.{IsReady, IsLegalOf}
+use Rattle.cqs_rule_laws.specs.CallRule.{IsReady}
+use Rattle.cqs_latch.specs.Calls.{IsLegalOf}
 use Rattle.cqs_latch.specs.Causes.{WordWas}
 use Rattle.cqs_latch.specs.CountAnswers.{Opens, HasCounted}
 use Rattle.cqs_latch.specs.Latch.{latch_object}
 use Rattle.cqs_latch.specs.LatchEvents.{loads_to_count, counts_down, opens}
 use Rattle.cqs_latch.specs.LatchTold.{at_word, OnWord, ReadsCount, ReadsWaiters}
 use Rattle.cqs_latch.proofs.Along.{Along, along-first, along-and, word-first, word-then, word-later}
-use Rattle.cqs_latch.proofs.Rules.{call-rule_own}
+use Rattle.cqs_rule_laws.proofs.Rules.{call-rule_own}
 use Rattle.cqs_latch.proofs.WaitSteps.{above-used, none-above, none-used}
 
 -- a count above 0 of which so many are left
@@ -81,7 +82,7 @@ module _ {T : Type 0} where
         along-first v x _ (entry.DownAlready v.number ∷ []) (Word (client_place 0) n ∷ []) (subst (λ es.
         Saw latch_object v (facts_moved loads_to_count (client_place 0) (at_word v n)) es x) one o.saw) refl in (
           [],
-          call-rule_own v x (entry.DownAlready v.number ∷ []) _ a.called (λ m. refl, tt) own legal,
+          call-rule_own latch_object v x (entry.DownAlready v.number ∷ []) _ a.called (λ m. refl, tt) own legal,
           (
             refl,
             record {
@@ -141,7 +142,7 @@ module _ {T : Type 0} where
         let t : Took (entry.DownAlready v.number) doing.Idle n y =
         took (entry.DownAlready v.number) doing.Idle x y n l o (rw test refl) (rw test refl) in (
           [],
-          call-rule_own v y (entry.DownAlready v.number ∷ []) _ t.along.called (λ m. refl, tt) own legal,
+          call-rule_own latch_object v y (entry.DownAlready v.number ∷ []) _ t.along.called (λ m. refl, tt) own legal,
           (
             refl,
             record { word = n; before = t.before; used = none-above n none; found = t.found },
@@ -160,7 +161,7 @@ module _ {T : Type 0} where
         took (entry.DownLeft v.number left) doing.Idle x y n l o (rw (used, last) (ap (entry.DownLeft v.number) less))
         (rw (used, last) refl) in (
           [],
-          call-rule_own v y (entry.DownLeft v.number left ∷ []) _ t.along.called (λ m. refl, tt) own legal,
+          call-rule_own latch_object v y (entry.DownLeft v.number left ∷ []) _ t.along.called (λ m. refl, tt) own legal,
           (
             refl,
             some,
@@ -188,7 +189,7 @@ module _ {T : Type 0} where
         let all : Along v (entry.DownLast v.number ∷ entry.Open v.number ∷ []) (entry.Open v.number ∷ []) z =
         along-and v y z (entry.DownLast v.number ∷ []) (entry.DownLast v.number ∷ []) _ _ t.along here in
         record {
-          called = call-rule_own v z (entry.DownLast v.number ∷ entry.Open v.number ∷ []) _ all.called
+          called = call-rule_own latch_object v z (entry.DownLast v.number ∷ entry.Open v.number ∷ []) _ all.called
               (λ k. refl, (λ k. refl, tt)) own legal;
           last = record {
             word = n;

@@ -6,11 +6,11 @@ use Rattle.cqs_core.specs.declared.doings.Doing.TheVariants as doing
 use Rattle.cqs_latch_object.specs.declared.entries.LatchEntry.{LatchEntry}
 use Rattle.cqs_latch_object.specs.declared.entries.LatchEntry.TheVariants as entry
 use Rattle.cqs_rule.specs.declared.queue.tokens.Under.{Under}
-use Rattle.cqs_views.specs.declared.view.View.{View}
-use Rattle.cqs_views.specs.Called.{Called}
-use Rattle.cqs_views.specs.Lists.{Has}
+use Rattle.cqs_rule_laws.specs.declared.view.View.{View}
+use Rattle.cqs_rule_laws.specs.Called.{Called}
+use Rattle.cqs_rule_laws.specs.Lists.{Has}
 use Rattle.cqs_rule.specs.Owed.{under_reached}
-use Rattle.cqs_views.proofs.Calls.{called-and}
+use Rattle.cqs_rule_laws.proofs.Calls.{called-and}
 use Rattle.cqs_latch.specs.declared.answers.Down.{Down}
 use Rattle.cqs_latch.specs.declared.answers.Down.TheVariants.{Last, LastOwing}
 use Rattle.cqs_latch.specs.declared.answers.Owed.{Owed}
@@ -19,7 +19,7 @@ use Rattle.cqs_latch.specs.CountAnswers.{Opens, HasCounted, HasFinished}
 use Rattle.cqs_latch.specs.Latch.{latch_object}
 use Rattle.cqs_latch.specs.Owed.{HasOwed, owed_under, owed_further, owed_reached}
 use Rattle.cqs_latch.specs.Waking.{Ending, woken_entries, OnEnded, OnHanded, Wakes, ending_entries}
-use Rattle.cqs_latch.proofs.Rules.{call-rule_ending}
+use Rattle.cqs_rule_laws.proofs.Rules.{call-rule_ending}
 use Rattle.cqs_latch.proofs.WakeSteps.{ran-then, woke-ran, next-handed, on-ran, stopped-handed, woken-none}
 
 -- the answers, by what is still owed
@@ -41,7 +41,7 @@ module _ {T : Type 0} (v : View LatchEntry T) (own : Has v.number v.own) where
       let owes = o.owes in
       let less = r.further in (
         ends,
-        call-rule_ending v w (entry.DownLast v.number ∷ entry.Open v.number ∷ []) (woken_entries ends) []
+        call-rule_ending latch_object v w (entry.DownLast v.number ∷ entry.Open v.number ∷ []) (woken_entries ends) []
             (called-and latch_object v x w _ [] (woken_entries ends) [] o.called.called r.along.called)
             (λ k. refl, (λ k. refl, tt)) (woken-none ends) own legal,
         (
@@ -65,7 +65,7 @@ module _ {T : Type 0} (v : View LatchEntry T) (own : Has v.number v.own) where
       let longer = length-append ran.0 handed.0.0 in
       let enough = h.many in (
         ends,
-        call-rule_ending v w (entry.DownLast v.number ∷ entry.Open v.number ∷ []) (woken_entries ends) []
+        call-rule_ending latch_object v w (entry.DownLast v.number ∷ entry.Open v.number ∷ []) (woken_entries ends) []
             (called-and latch_object v x w _ [] (woken_entries ends) [] o.called.called
             (subst (λ es. Called latch_object x es [] w) (append-nil (woken_entries ends))
             (called-and latch_object x u w (woken_entries ends) [] [] [] r.along.called h.along.called)))
@@ -105,7 +105,8 @@ module _ {T : Type 0} (v : View LatchEntry T) (own : Has v.number v.own) where
       let owes = has.further in
       let less = r.further in (
         e ∷ ends,
-        call-rule_ending v w [] (woken_entries (e ∷ ends)) [] r.along.called tt (woken-none (e ∷ ends)) own legal,
+        call-rule_ending latch_object v w [] (woken_entries (e ∷ ends)) [] r.along.called tt
+            (woken-none (e ∷ ends)) own legal,
         (
           e,
           ends,
@@ -132,7 +133,7 @@ module _ {T : Type 0} (v : View LatchEntry T) (own : Has v.number v.own) where
       let longer = length-append (first.0 ++ rest.0) handed.0.0 in
       let enough = h.many in (
         e ∷ ends,
-        call-rule_ending v w [] (woken_entries (e ∷ ends)) []
+        call-rule_ending latch_object v w [] (woken_entries (e ∷ ends)) []
             (subst (λ es. Called latch_object v es [] w) (append-nil (woken_entries (e ∷ ends)))
             (called-and latch_object v x w (woken_entries (e ∷ ends)) [] [] [] r.along.called h.along.called)) tt
             (woken-none (e ∷ ends)) own legal,
@@ -165,7 +166,7 @@ module _ {T : Type 0} (v : View LatchEntry T) (own : Has v.number v.own) where
       let owes = has.further in
       let last = h.further in (
         [],
-        call-rule_ending v w [] [] [] h.along.called tt tt own legal,
+        call-rule_ending latch_object v w [] [] [] h.along.called tt tt own legal,
         (
           record {
             over = record { over = _; passed = h.passed; many_are = h.many };

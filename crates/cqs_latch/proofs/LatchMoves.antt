@@ -10,16 +10,16 @@ use Rattle.cqs_latch_object.specs.LatchWords as word
 use Rattle.cqs_latch_object.specs.LatchWords.{WordStep, IsOpenWord, word_entries, word_doing, count_after, word_after, done_after, owed_after, after_word_step, is_used, is_last, counted_entry, come_entry}
 use Rattle.cqs_latch_object.proofs.LatchSteps.{word-core}
 use Rattle.cqs_latch_object.proofs.LatchBounds.{every-count-is-high, waiters-are-few, core-still_shut, core-leaver}
-use Rattle.cqs_views.specs.declared.config.CancelMode.{CancelMode}
-use Rattle.cqs_views.specs.declared.config.CancelMode.TheVariants.{Smart, Simple}
-use Rattle.cqs_views.specs.declared.view.Facts.{Facts}
-use Rattle.cqs_views.specs.declared.view.Has.{Has}
-use Rattle.cqs_views.specs.Events.{Event, Moves, IsShort, word_plus, in_any_case}
-use Rattle.cqs_views.specs.Facts.{is_owing}
-use Rattle.cqs_views.specs.Hidden.{Hidden, stands_at}
-use Rattle.cqs_views.specs.Lists.{NamesOnly}
-use Rattle.cqs_views.specs.Manner.{Asks}
-use Rattle.cqs_views.specs.Ruled.{number_at}
+use Rattle.cqs_rule_laws.specs.declared.config.CancelMode.{CancelMode}
+use Rattle.cqs_rule_laws.specs.declared.config.CancelMode.TheVariants.{Smart, Simple}
+use Rattle.cqs_rule_laws.specs.declared.view.Facts.{Facts}
+use Rattle.cqs_rule_laws.specs.declared.view.Has.{Has}
+use Rattle.cqs_rule_laws.specs.Events.{Event, Moves, IsShort, word_plus, in_any_case}
+use Rattle.cqs_rule_laws.specs.Facts.{is_owing}
+use Rattle.cqs_rule_laws.specs.Hidden.{Hidden, stands_at}
+use Rattle.cqs_rule_laws.specs.Lists.{NamesOnly}
+use Rattle.cqs_rule_laws.specs.Manner.{Asks}
+use Rattle.cqs_rule_laws.specs.Ruled.{number_at}
 use Rattle.cqs_latch.specs.Latch.{is_simple, further_of, latch_shown, ShowsLatch, latch_object, latch_primitive, latch_manner}
 use Rattle.cqs_latch.specs.LatchClient.{further-set, further-kept, none-held}
 use Rattle.cqs_latch.specs.LatchEvents.{loads_to_count, counts_down, loads_to_wait, comes, turns_back, opens, leaves}

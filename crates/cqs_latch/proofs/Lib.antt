@@ -1,10 +1,8 @@
 pub mod WordSteps
 pub mod LatchMoves
 pub mod WordsFound
-pub mod Rules
 pub mod Along
 pub mod WaitSteps
-pub mod PollSteps
 pub mod WakeSteps
 pub mod Grown
 pub mod CountSteps
@@ -14,5 +12,4 @@ pub mod Kept
 pub mod Simple
 pub mod AloneSteps
 pub mod AloneOpen
-pub mod AheadLines
 pub mod AloneOrder

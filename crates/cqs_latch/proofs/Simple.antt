@@ -4,11 +4,11 @@ use Rattle.cqs_core.specs.declared.cells.CoreCell.{CoreCell}
 use Rattle.cqs_core.specs.Numbered.{EachAt}
 use Rattle.cqs_core.specs.QueueState.{Queue}
 use Rattle.cqs_resume.specs.AtOnce.{IsPlain, ShowsPlain}
-use Rattle.cqs_views.specs.declared.config.CancelMode.{CancelMode}
-use Rattle.cqs_views.specs.declared.config.CancelMode.TheVariants.{Smart, Simple}
-use Rattle.cqs_views.specs.declared.view.Opening.{Opening}
-use Rattle.cqs_views.specs.Hidden.{state_in, state_at}
-use Rattle.cqs_views.specs.Manner.{Asks, IsAtOnce, IsSmart}
+use Rattle.cqs_rule_laws.specs.declared.config.CancelMode.{CancelMode}
+use Rattle.cqs_rule_laws.specs.declared.config.CancelMode.TheVariants.{Smart, Simple}
+use Rattle.cqs_rule_laws.specs.declared.view.Opening.{Opening}
+use Rattle.cqs_rule_laws.specs.Hidden.{state_in, state_at}
+use Rattle.cqs_rule_laws.specs.Manner.{Asks, IsAtOnce, IsSmart}
 use Rattle.cqs_latch.specs.declared.client.LatchClient.{LatchClient}
 use Rattle.cqs_latch.specs.Causes.{primitive_of}
 use Rattle.cqs_latch.specs.Latch.{latch_manner, HoldsPlain}

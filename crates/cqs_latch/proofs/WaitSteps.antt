@@ -7,31 +7,34 @@ use Rattle.cqs_core.specs.declared.doings.Doing.TheVariants as doing
 use Rattle.cqs_latch_object.specs.declared.entries.LatchEntry.{LatchEntry}
 use Rattle.cqs_latch_object.specs.declared.entries.LatchEntry.TheVariants as entry
 use Rattle.cqs_latch_object.specs.LatchWords.{is_used, come_entry, come_doing}
-use Rattle.cqs_views.specs.declared.config.AcquireError.{AcquireError}
-use Rattle.cqs_views.specs.declared.config.AcquireError.TheVariants as error
-use Rattle.cqs_views.specs.declared.config.AcquireError.TheVariants.{Worn}
-use Rattle.cqs_views.specs.declared.view.Facts.{Facts}
-use Rattle.cqs_views.specs.declared.view.Sighting.TheVariants.{Cell, Word}
-use Rattle.cqs_views.specs.declared.view.View.{View}
-use Rattle.cqs_views.specs.Called.{Called}
-use Rattle.cqs_views.specs.Events.{facts_moved}
-use Rattle.cqs_views.specs.Layout.{suspends_place, client_place}
-use Rattle.cqs_views.specs.Lists.{Has}
-use Rattle.cqs_views.specs.Saw.{Saw}
+use Rattle.cqs_rule_laws.specs.declared.config.AcquireError.{AcquireError}
+use Rattle.cqs_rule_laws.specs.declared.config.AcquireError.TheVariants as error
+use Rattle.cqs_rule_laws.specs.declared.config.AcquireError.TheVariants.{Worn}
+use Rattle.cqs_rule_laws.specs.declared.view.Facts.{Facts}
+use Rattle.cqs_rule_laws.specs.declared.view.Sighting.TheVariants.{Cell, Word}
+use Rattle.cqs_rule_laws.specs.declared.view.View.{View}
+use Rattle.cqs_rule_laws.specs.Called.{Called}
+use Rattle.cqs_rule_laws.specs.Events.{facts_moved}
+use Rattle.cqs_rule_laws.specs.Layout.{suspends_place, client_place}
+use Rattle.cqs_rule_laws.specs.Lists.{Has}
+use Rattle.cqs_rule_laws.specs.Saw.{Saw}
 use Rattle.cqs_rule.specs.Waits.{place_of}
 use Rattle.cqs_words.specs.State.{count_in, is_above_zero}
 use Rattle.cqs_words.specs.Waiters.{is_done}
 use Rattle.cqs_latch.specs.declared.answers.LatchWait.{LatchWait}
 use Rattle.cqs_latch.specs.declared.answers.LatchWait.TheVariants.{Passed, Later}
 use Rattle.cqs_latch.specs.Answers.{WasAbove, WasShut, HasWaited}
-use Rattle.cqs_latch.specs.Calls.{IsReady, IsLegalOf}
-use Rattle.cqs_latch.specs.Causes.{WordWas}
+use Rattle.cqs_rule_laws.specs.CallRule.{IsReady}
+use Rattle.cqs_latch.specs.Calls.{IsLegalOf}
 use Rattle.cqs_latch.specs.Latch.{latch_object}
 use Rattle.cqs_latch.specs.LatchEvents.{loads_to_wait, comes, turns_back}
 use Rattle.cqs_latch.specs.LatchTold.{at_word, OnWord, ReadsCount, ReadsWaiters, NextIs}
 use Rattle.cqs_latch.specs.Steps.{WaitsInLine}
-use Rattle.cqs_latch.proofs.Along.{prefix-more, Along, along-first, along-and, word-first, word-then, word-later, next-then, next-later}
-use Rattle.cqs_latch.proofs.Rules.{call-rule, call-rule_own}
+use Rattle.cqs_latch.proofs.Along.{Along, along-first, along-and, word-first, word-then, word-later, next-then, next-later}
+use Rattle.cqs_rule_laws.proofs.Rules.{call-rule, call-rule_own}
+use Rattle.cqs_suspend.proofs.Sat.{sat-taken, sat-installed}
+use Rattle.cqs_latch.specs.Causes.{primitive_of, WordWas}
+use Rattle.cqs_core.specs.QueueSteps.{draws}
 use Rattle.cqs_latch.proofs.WordSteps.{above-zero}
 
 pub above-used : (n : ℕ) → is_above_zero n ≡ true → is_used (count_in n) ≡ false
@@ -96,12 +99,6 @@ module _ {T : Type 0} where
         further = ap (λ (f : Facts). f.has.further) next.saw.facts_are ∙ l.further;
       }
 
-  -- below the limit it may draw
-  pub may-draw : (x y : View LatchEntry T) (m : ℕ) → NextIs x m y → m < x.limit → y.facts.may_draw ≡ true
-  may-draw x y m next low =
-      ap (λ (f : Facts). f.may_draw) next.saw.facts_are
-      ∙ ap (λ b. if b then true else x.facts.may_draw) (lt-ltb m x.limit low)
-
   module _ (v : View LatchEntry T) (ready : IsReady v.facts) (own : Has v.number v.own) where
     -- the count was used up
     pub used : (x : View LatchEntry T) (n : ℕ) → is_above_zero n ≡ false → OnWord 0 loads_to_wait ReadsCount v n x
@@ -115,7 +112,7 @@ module _ {T : Type 0} where
         (subst (λ es. Saw latch_object v (facts_moved loads_to_wait (client_place 0) (at_word v n)) es x) one o.saw)
         refl in (
           None,
-          call-rule_own v x (entry.Passed v.number ∷ []) _ a.called (λ m. refl, tt) own legal,
+          call-rule_own latch_object v x (entry.Passed v.number ∷ []) _ a.called (λ m. refl, tt) own legal,
           (
             inl (record {
               word = n;
@@ -143,7 +140,7 @@ module _ {T : Type 0} where
         let back : Along y [] [] z = along-first y z _ [] (Word (client_place 0) b ∷ []) o.saw refl in
         let a : Along v [] [] z = along-and v y z [] [] [] [] l'.along back in (
           None,
-          call-rule_own v z [] [] a.called tt own legal,
+          call-rule_own latch_object v z [] [] a.called tt own legal,
           (
             above-later v y z [] [] l'.above back,
             record {
@@ -200,7 +197,7 @@ module _ {T : Type 0} where
     pub passed : (z : View LatchEntry T) → Came true z → IsLegalOf z → HasWaited v (Ok Passed) z
     passed z c legal = (
       None,
-      call-rule_own v z (entry.Passed v.number ∷ []) _ c.along.called (λ m. refl, tt) own legal,
+      call-rule_own latch_object v z (entry.Passed v.number ∷ []) _ c.along.called (λ m. refl, tt) own legal,
       (
         inr (c.above, record { word = c.word; before = c.before; done = c.is; found = c.found }),
         record { ready = record { idle = c.doing; further = c.further }; waits_are = c.waits },
@@ -222,15 +219,14 @@ module _ {T : Type 0} where
         let k = e.0 in
         let ended = e.2 in
         let number : z.number ≡ v.number = c.along.called.same.number in
-        let all = ap (λ (f : Facts). f.found) ended.facts_are in
-        let more = prefix-more z.facts.found (Word suspends_place k ∷ []) ended.found (Cell k ended.word ∷ []) in
+        let s = sat-taken latch_object primitive_of draws 2 k e.1 z w ended in
         let here : Along z (entry.Enter z.number k ∷ entry.Deliver k ∷ []) (entry.Deliver k ∷ []) w =
-        record { called = ended.called; found = more.0; found_is = all ∙ more.1 } in
+        record { called = ended.called; found = s.onward.found.0; found_is = s.onward.found.1 } in
         let both : Along v (entry.AwaitDoor v.number ∷ entry.Enter z.number k ∷ entry.Deliver k ∷ [])
         (entry.Deliver k ∷ []) w =
         along-and v z w (entry.AwaitDoor v.number ∷ []) (entry.AwaitDoor v.number ∷ []) _ _ c.along here in (
           Some k,
-          call-rule v w (entry.AwaitDoor v.number ∷ entry.Enter v.number k ∷ []) (entry.Deliver k ∷ [])
+          call-rule latch_object v w (entry.AwaitDoor v.number ∷ entry.Enter v.number k ∷ []) (entry.Deliver k ∷ [])
               (subst (λ p. Called latch_object v
               (entry.AwaitDoor v.number ∷ entry.Enter p k ∷ entry.Deliver k ∷ []) (entry.Deliver k ∷ []) w) number
               both.called)
@@ -238,13 +234,10 @@ module _ {T : Type 0} where
           (
             above-later v z w _ _ c.above here,
             shut-later z w _ _ c here,
-            record { word = ended.word; payload = e.1; cell = ended.cell; found = (_, all); was = ended.was },
+            s.cell.0,
             record {
-              ready = record {
-                idle = ap (λ (f : Facts). f.doing) ended.facts_are;
-                further = ap (λ (f : Facts). f.has.further) ended.facts_are ∙ c.further;
-              };
-              waits_are = ap (λ (f : Facts). f.waits) ended.facts_are ∙ c.waits;
+              ready = record { idle = s.idle; further = ap (λ h. h.further) s.has_is ∙ c.further };
+              waits_are = s.waits_are ∙ c.waits;
             },
           ),
         )
@@ -252,28 +245,24 @@ module _ {T : Type 0} where
         let k = (place_of wait).index in
         let ended = e.0 in
         let number : z.number ≡ v.number = c.along.called.same.number in
-        let all = ap (λ (f : Facts). f.found) ended.facts_are in
-        let more = prefix-more z.facts.found (Word suspends_place k ∷ []) ended.found (Cell k ended.word ∷ []) in
+        let s = sat-installed latch_object primitive_of draws 0 k 0 z w ended in
         let here : Along z (entry.Enter z.number k ∷ []) [] w =
-        record { called = ended.called; found = more.0; found_is = all ∙ more.1 } in
+        record { called = ended.called; found = s.onward.found.0; found_is = s.onward.found.1 } in
         let both : Along v (entry.AwaitDoor v.number ∷ entry.Enter z.number k ∷ []) [] w =
         along-and v z w (entry.AwaitDoor v.number ∷ []) (entry.AwaitDoor v.number ∷ []) _ _ c.along here in (
           None,
-          call-rule_own v w (entry.AwaitDoor v.number ∷ entry.Enter v.number k ∷ []) []
+          call-rule_own latch_object v w (entry.AwaitDoor v.number ∷ entry.Enter v.number k ∷ []) []
               (subst (λ p. Called latch_object v (entry.AwaitDoor v.number ∷ entry.Enter p k ∷ []) [] w) number
               both.called)
               (λ m. refl, (λ m. refl, tt)) own legal,
           (
             above-later v z w _ _ c.above here,
             shut-later z w _ _ c here,
-            record { word = ended.word; payload = 0; cell = ended.cell; found = (_, all); was = ended.was },
+            s.cell.0,
             e.1,
             record {
-              ready = record {
-                idle = ap (λ (f : Facts). f.doing) ended.facts_are;
-                further = ap (λ (f : Facts). f.has.further) ended.facts_are ∙ c.further;
-              };
-              waits_are = ap (λ (f : Facts). f.waits) ended.facts_are ∙ ap (λ l. l ++ k ∷ []) c.waits;
+              ready = record { idle = s.idle; further = ap (λ h. h.further) s.has_is ∙ c.further };
+              waits_are = s.waits_are ∙ ap (λ l. l ++ k ∷ []) c.waits;
             },
           ),
         )

@@ -6,6 +6,7 @@ use Rattle.cqs_core.specs.declared.cells.CoreState.TheVariants as state
 use Rattle.cqs_core.specs.declared.doings.Doing.TheVariants as doing
 use Rattle.cqs_core.specs.QueueSteps.{QueueStep, begins, reaches, serves, leaves, delegates, ends_refused, ends_missed}
 use Rattle.cqs_latch_object.specs.declared.entries.LatchEntry.{LatchEntry}
+use Rattle.cqs_latch_object.specs.LatchNames.{entry_names}
 use Rattle.cqs_latch_object.specs.LatchSteps.{step_entries}
 use Rattle.cqs_resume.specs.declared.at_once.EndedAtOnce.{EndedAtOnce}
 use Rattle.cqs_resume.specs.declared.at_once.EndedAtOnce.TheVariants as once
@@ -15,78 +16,38 @@ use Rattle.cqs_resume.specs.AtOnce.{MeetsAtOnce, BegunAtOnce, FinishedAtOnce}
 use Rattle.cqs_resume.specs.Begins.{Begun}
 use Rattle.cqs_resume.specs.Meets.{Met}
 use Rattle.cqs_resume.specs.Resumes.{Ended, Stopped, Resumes, most_passed_over, most_after_first}
-use Rattle.cqs_resume.specs.Rounds.{Round, IsOpenedWith, draw_entries, round_entries, over_entries, draw_seen, round_seen, all_seen, drawn_in, one_if, numbers}
+use Rattle.cqs_resume.specs.Rounds.{numbers}
+use Rattle.cqs_resume.proofs.Ends.{IsQuiet, ended-at, handed-back, drawn-few, opened-few}
 use Rattle.cqs_rule.specs.declared.queue.tokens.Under.{Under}
-use Rattle.cqs_views.specs.declared.view.Facts.{Facts}
-use Rattle.cqs_views.specs.declared.view.Sighting.{Sighting}
-use Rattle.cqs_views.specs.declared.view.Sighting.TheVariants.{Cell, Word}
-use Rattle.cqs_views.specs.declared.view.View.{View}
-use Rattle.cqs_views.specs.Called.{Called}
-use Rattle.cqs_views.specs.Counts.{Drew}
-use Rattle.cqs_views.specs.Exchanges.{FoundCell, HasCell}
-use Rattle.cqs_views.specs.Layout.{resumes_place}
+use Rattle.cqs_rule_laws.specs.declared.view.Facts.{Facts}
+use Rattle.cqs_rule_laws.specs.declared.view.Sighting.TheVariants.{Cell, Word}
+use Rattle.cqs_rule_laws.specs.declared.view.View.{View}
+use Rattle.cqs_rule_laws.specs.Counts.{Drew}
+use Rattle.cqs_rule_laws.specs.Layout.{resumes_place}
 use Rattle.cqs_rule.specs.Owed.{HasUnder, under_payload, under_ticket}
-use Rattle.cqs_views.specs.Saw.{WasFound}
-use Rattle.cqs_views.proofs.Calls.{called-none}
-use Rattle.cqs_latch.specs.Causes.{primitive_of, cell_of, CellWas}
+use Rattle.cqs_rule_laws.proofs.Calls.{called-none}
+use Rattle.cqs_rule_laws.proofs.Rules.{NoneName, called-weak}
+use Rattle.cqs_latch.specs.Causes.{primitive_of, CellWas}
 use Rattle.cqs_latch.specs.Latch.{latch_object}
 use Rattle.cqs_latch.specs.Waking.{Ending, served_at, left_at, refused_at, missed_at, ending_entries, woken_entries, handed_back, NextEnded, NextHanded, Next, OnEnded, On, Woke}
 use Rattle.cqs_latch.proofs.Along.{Along, along-first, along-and}
-use Rattle.cqs_latch.proofs.Rules.{NoneName, called-weak}
 
--- a round of a latch's resumption shows no entry but that of its last step
-draw-none : (p payload : ℕ) (drawn : Bool) (k : ℕ) → draw_entries latch_object p payload drawn k ≡ []
-draw-none p payload true k = refl
-draw-none p payload false k = refl
-
-over-none : (p payload : ℕ) (over : List Round) → over_entries latch_object p payload over ≡ []
-over-none p payload [] = refl
-over-none p payload (r ∷ over) =
-    λ i. (draw-none p payload r.drawn r.number i ++ []) ++ over-none p payload over i
-
-entries-last : (p payload k : ℕ) (s : QueueStep) (over : List Round) (last : Round) → last.number ≡ k
-    → over_entries latch_object p payload over ++ round_entries latch_object p payload s last ≡ step_entries s p k
-entries-last p payload k s over last is =
-    λ i. over-none p payload over i ++ (draw-none p payload last.drawn last.number i ++ step_entries s p (is i))
-
--- what the last round found is last of all that was found
-seen-last : (over : List Round) (last : Round)
-    → (earlier : List Sighting) × (all_seen (over ++ last ∷ []) ≡ earlier ++ Cell last.number last.word ∷ [])
-seen-last [] last = (
-  draw_seen last.drawn last.number ++ last.tried,
-  append-nil _ ∙ sym (append_assoc (draw_seen last.drawn last.number) last.tried (Cell last.number last.word ∷ [])),
-)
-seen-last (r ∷ over) last =
-    let later = seen-last over last in (
-      round_seen r ++ later.0,
-      ap (λ l. round_seen r ++ l) later.1 ∙ sym (append_assoc (round_seen r) later.0 _),
-    )
-
--- each number that was drawn is one of those that were passed over, and so is one whose ticket was open
-one-few : (b : Bool) → one_if b ≤ 1
-one-few true = omega arith
-one-few false = omega arith
-
-drawn-few : (over : List Round) → drawn_in over ≤ length (numbers over)
-drawn-few [] = omega arith
-drawn-few (r ∷ over) = let first = one-few r.drawn in let later = drawn-few over in omega arith
-
-opened-few : (k : ℕ) (over : List Round) → IsOpenedWith (Some k) over → drawn_in over + 1 ≤ length (numbers over)
-opened-few k [] opens = absurd opens
-opened-few k (r ∷ over) opens =
-    let none : one_if r.drawn ≡ 0 = ap one_if opens.1 in let later = drawn-few over in omega arith
+-- a resumption that goes on shows no entry but that of its last step
+pub quiet : IsQuiet latch_object
+quiet = record { drawing = λ p k payload. refl; passing = λ p k payload. refl }
 
 minus-none : (n : ℕ) → n ≡ n - 0
 minus-none n = omega arith
 
 -- the entries by which resumptions reach their numbers name nobody
-ending-none : (e : Ending) (es : List LatchEntry) → NoneName es → NoneName (ending_entries e ++ es)
+ending-none : (e : Ending) (es : List LatchEntry) → NoneName entry_names es
+    → NoneName entry_names (ending_entries e ++ es)
 ending-none (served_at k) es none = (λ n. refl, none)
 ending-none (left_at k) es none = none
 ending-none (refused_at k) es none = none
 ending-none (missed_at k) es none = (λ n. refl, none)
 
-pub woken-none : (ends : List Ending) → NoneName (woken_entries ends)
+pub woken-none : (ends : List Ending) → NoneName entry_names (woken_entries ends)
 woken-none [] = tt
 woken-none (e ∷ ends) = ending-none e (woken_entries ends) (woken-none ends)
 
@@ -113,7 +74,7 @@ module _ {T : Type 0} where
 
   pub along-weak : (v u : View LatchEntry T) (es last : List LatchEntry) → Along v es last u → Along v es [] u
   along-weak v u es last a =
-      record { called = called-weak v u es last a.called; found = a.found; found_is = a.found_is }
+      record { called = called-weak latch_object v u es last a.called; found = a.found; found_is = a.found_is }
 
   -- From v to u the pass made resumptions with these entries. It is idle, owes so many fewer, has all else as it had
   -- it, and passed over these numbers.
@@ -150,43 +111,24 @@ module _ {T : Type 0} where
   pub ended-ran : (s : QueueStep) (at : CoreState) (most : ℕ) (ticket : Option ℕ) (payload k : ℕ)
       (u w : View LatchEntry T) → (e : Ended latch_object primitive_of s at most ticket payload k u w)
       → Ran (step_entries s u.number k) 0 (numbers e.over) u w
-  ended-ran s at most ticket payload k u w e = record {
-    along = record {
-      called = called-weak u w (step_entries s u.number k) (step_entries s u.number k)
-          (subst (λ es. Called latch_object u es (step_entries s u.number k) w)
-          (entries-last u.number payload k s e.over e.last e.number) e.called);
-      found = all_seen (e.over ++ e.last ∷ []);
-      found_is = ap (λ (f : Facts). f.found) e.facts_are;
-    };
-    idle = ap (λ (f : Facts). f.doing) e.facts_are;
-    further = ap (λ (f : Facts). f.has.further) e.facts_are ∙ minus-none u.facts.has.further;
-    payload = ap (λ (f : Facts). f.has.payload) e.facts_are;
-    waits = ap (λ (f : Facts). f.waits) e.facts_are;
-    passed = ap (λ (f : Facts). f.passed) e.facts_are;
-  }
+  ended-ran s at most ticket payload k u w e =
+      let a = ended-at latch_object primitive_of quiet s at most ticket payload k u w e in
+      record {
+        along = along-weak u w (step_entries s u.number k) (step_entries s u.number k)
+            (record { called = a.called; found = a.onward.found.0; found_is = a.onward.found.1 });
+        idle = a.idle;
+        further = ap (λ h. h.further) a.has ∙ minus-none u.facts.has.further;
+        payload = ap (λ h. h.payload) a.has;
+        waits = a.waits;
+        passed = a.passed;
+      }
 
   -- which it found so
   pub ended-cell : (s : QueueStep) (at : CoreState) (most : ℕ) (ticket : Option ℕ) (payload k : ℕ)
       (u w : View LatchEntry T) → Ended latch_object primitive_of s at most ticket payload k u w
       → CellWas at k (step_entries s u.number k) w
   ended-cell s at most ticket payload k u w e =
-      let last = e.last in
-      let found : w.facts.found ≡ u.facts.found ++ all_seen (e.over ++ last ∷ []) =
-      ap (λ (f : Facts). f.found) e.facts_are in
-      let at_end = seen-last e.over last in
-      record {
-        word = last.word;
-        payload = last.payload;
-        cell = subst (λ j. FoundCell last.word (cell_of j at last.payload)) e.number e.found.cell;
-        found = (
-          u.facts.found ++ at_end.0,
-          found ∙ (ap (λ l. u.facts.found ++ l) at_end.1
-              ∙ (sym (append_assoc u.facts.found at_end.0 (Cell last.number last.word ∷ []))
-              ∙ ap (λ j. (u.facts.found ++ at_end.0) ++ Cell j last.word ∷ []) e.number)),
-        );
-        was = subst (λ j. WasFound primitive_of (HasCell (cell_of j at last.payload)) (step_entries s u.number k) w)
-            e.number e.was;
-      }
+      (ended-at latch_object primitive_of quiet s at most ticket payload k u w e).cell
 
   -- it was met in simple mode
   met-ran : (s : QueueStep) (at : CoreState) (payload k : ℕ) (u w : View LatchEntry T)
@@ -302,41 +244,32 @@ module _ {T : Type 0} where
   pub stopped-handed : (ticket : Option ℕ) (payload : ℕ) (under : Under) (v w : View LatchEntry T)
       → (e : Stopped latch_object primitive_of most_passed_over ticket payload under v w)
       → Handed under 0 (numbers e.over) v w
-  stopped-handed ticket payload under v w e = record {
-    along = record {
-      called = called-weak v w [] _
-          (subst (λ es. Called latch_object v es [] w) (over-none v.number payload e.over) e.called);
-      found = all_seen e.over;
-      found_is = ap (λ (f : Facts). f.found) e.facts_are;
-    };
-    has = e.has;
-    further = ap (λ (f : Facts). f.has.further) e.facts_are ∙ minus-none v.facts.has.further;
-    waits = ap (λ (f : Facts). f.waits) e.facts_are;
-    passed = ap (λ (f : Facts). f.passed) e.facts_are;
-    many = let few = drawn-few e.over in let all = e.all in omega arith;
-  }
+  stopped-handed ticket payload under v w e =
+      let h = handed-back latch_object primitive_of quiet most_passed_over ticket payload under v w e in
+      record {
+        along = record { called = h.called; found = h.onward.found.0; found_is = h.onward.found.1 };
+        has = e.has;
+        further = ap (λ h. h.further) h.has ∙ minus-none v.facts.has.further;
+        waits = h.waits;
+        passed = h.passed;
+        many = let few = drawn-few e.over in let all = e.all in omega arith;
+      }
 
   pub next-handed : (under : Under) (v w : View LatchEntry T) → NextHanded under v w
       → ((over : List ℕ) × Handed under 1 over v w) × (under_payload under ≡ 0)
   next-handed under v w b =
-      let e = b.resumes in (
+      let e = b.resumes in
+      let h = handed-back latch_object primitive_of quiet most_after_first (Some b.number) 0 under b.from w e in (
         (
           numbers e.over,
           record {
             along = along-and v b.from w [] [] [] []
                 (along-first v b.from _ [] (Word resumes_place b.number ∷ []) b.drew refl)
-                (record {
-                  called = called-weak b.from w [] _
-                      (subst (λ es. Called latch_object b.from es [] w) (over-none b.from.number 0 e.over) e.called);
-                  found = all_seen e.over;
-                  found_is = ap (λ (f : Facts). f.found) e.facts_are;
-                });
+                (record { called = h.called; found = h.onward.found.0; found_is = h.onward.found.1 });
             has = e.has;
-            further = ap (λ (f : Facts). f.has.further) e.facts_are
-                ∙ ap (λ (f : Facts). f.has.further) b.drew.facts_are;
-            waits = ap (λ (f : Facts). f.waits) e.facts_are ∙ ap (λ (f : Facts). f.waits) b.drew.facts_are;
-            passed = ap (λ (f : Facts). f.passed) e.facts_are
-                ∙ ap (λ (f : Facts). f.passed ++ numbers e.over) b.drew.facts_are;
+            further = ap (λ h. h.further) h.has ∙ ap (λ (f : Facts). f.has.further) b.drew.facts_are;
+            waits = h.waits ∙ ap (λ (f : Facts). f.waits) b.drew.facts_are;
+            passed = h.passed ∙ ap (λ (f : Facts). f.passed ++ numbers e.over) b.drew.facts_are;
             many = let few = opened-few b.number e.over e.opens in let all = e.all in omega arith;
           },
         ),

@@ -1,7 +1,7 @@
 -- What the steps on a latch's words do to the numbers that stand there.
 use Rattle.std.proofs.Common.{◌≡◌, ℕ, ◌+◌, ◌-◌, ◌^◌, ◌<◌, pos, negsuc, ◌≤ℤ◌, ◌<ℤ◌, ◌-ℤ◌, true, false, bit_or, sym, ap, ◌∙◌, arith}
 use Rattle.std.proofs.lemmas.Int.{ints}
-use Rattle.cqs_views.specs.Events.{word_plus}
+use Rattle.cqs_rule_laws.specs.Events.{word_plus}
 use Rattle.cqs_words.specs.State.{count_in, is_above_zero}
 use Rattle.cqs_words.specs.Waiters.{waiters_word, waiters_in, is_done}
 use Rattle.cqs_words.proofs.WaitersLaws.{waiters_in-word, is_done-word, word-waiters_in, waiters_word-add, waiters_word-less, waiters_word-done}

@@ -10,14 +10,14 @@ use Rattle.cqs_latch.specs.declared.client.LatchClient.{LatchClient}
 use Rattle.cqs_latch.specs.Latch.{is_simple, latch_shown, latch_object, latch_primitive}
 use Rattle.cqs_latch.specs.LatchMade.{count_of, mode_of}
 use Rattle.cqs_latch.specs.LatchTold.{OnWord, ReadsCount, ReadsWaiters, NextIs}
-use Rattle.cqs_views.specs.declared.view.View.{View}
-use Rattle.cqs_views.specs.declared.view.Opening.{Opening}
-use Rattle.cqs_views.specs.Events.{Event, Moved, HasWord, in_any_case}
-use Rattle.cqs_views.specs.Layout.{client_place}
-use Rattle.cqs_views.specs.Loads.{CountLoaded, IsDrawn}
-use Rattle.cqs_views.specs.Hidden.{Hidden}
-use Rattle.cqs_views.specs.Object.{Primitive}
-use Rattle.cqs_views.specs.Saw.{WasShown}
+use Rattle.cqs_rule_laws.specs.declared.view.View.{View}
+use Rattle.cqs_rule_laws.specs.declared.view.Opening.{Opening}
+use Rattle.cqs_rule_laws.specs.Events.{Event, Moved, HasWord, in_any_case}
+use Rattle.cqs_rule_laws.specs.Layout.{client_place}
+use Rattle.cqs_rule_laws.specs.Loads.{CountLoaded, IsDrawn}
+use Rattle.cqs_rule_laws.specs.Hidden.{Hidden}
+use Rattle.cqs_rule_laws.specs.Object.{Primitive}
+use Rattle.cqs_rule_laws.specs.Saw.{WasShown}
 use Rattle.cqs_words.specs.State.{count_in}
 use Rattle.cqs_words.specs.Waiters.{waiters_in, is_done}
 

@@ -6,9 +6,9 @@ use Rattle.cqs_core.specs.QueueWaiters.{Waits, IsServed}
 use Rattle.cqs_latch_object.specs.declared.entries.LatchEntry.{LatchEntry}
 use Rattle.cqs_latch_object.specs.declared.entries.LatchEntry.TheVariants as entry
 use Rattle.cqs_latch_object.specs.LatchObject as plain
-use Rattle.cqs_views.specs.declared.config.AcquireError.{AcquireError}
-use Rattle.cqs_views.specs.declared.config.AcquireError.TheVariants.{Worn, Crowded}
-use Rattle.cqs_views.specs.declared.view.View.{View}
+use Rattle.cqs_rule_laws.specs.declared.config.AcquireError.{AcquireError}
+use Rattle.cqs_rule_laws.specs.declared.config.AcquireError.TheVariants.{Worn, Crowded}
+use Rattle.cqs_rule_laws.specs.declared.view.View.{View}
 use Rattle.cqs_rule.specs.Waits.{place_of}
 use Rattle.cqs_latch.specs.declared.answers.Down.{Down}
 use Rattle.cqs_latch.specs.declared.answers.Down.TheVariants.{Left, Last, LastOwing, Already}

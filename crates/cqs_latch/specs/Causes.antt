@@ -1,25 +1,19 @@
 -- What the steps of a call found, and where in the history it was so.
-use Rattle.std.specs.Prelude.{◌≡◌, ℕ, List, [], ◌∷◌, ◌++◌}
+use Rattle.std.specs.Prelude.{◌≡◌, ℕ, List, ◌∷◌, ◌++◌}
 use Rattle.cqs_core.specs.declared.cells.CoreState.{CoreState}
 use Rattle.cqs_latch_object.specs.declared.entries.LatchEntry.{LatchEntry}
 use Rattle.cqs_latch_object.specs.LatchObject.{Latch}
-use Rattle.cqs_views.specs.declared.view.Glimpse.{Glimpse}
-use Rattle.cqs_views.specs.declared.view.Sighting.{Sighting}
-use Rattle.cqs_views.specs.declared.view.Sighting.TheVariants.{Cell, Word}
-use Rattle.cqs_views.specs.declared.view.View.{View}
-use Rattle.cqs_views.specs.Exchanges.{FoundCell, HasCell}
-use Rattle.cqs_views.specs.Layout.{suspends_place, client_place}
-use Rattle.cqs_views.specs.Lists.{IsPrefix}
-use Rattle.cqs_views.specs.Object.{Primitive}
-use Rattle.cqs_views.specs.Saw.{WasFound, WasSo}
+use Rattle.cqs_rule_laws.specs.declared.view.Sighting.{Sighting}
+use Rattle.cqs_rule_laws.specs.declared.view.Sighting.TheVariants.{Word}
+use Rattle.cqs_rule_laws.specs.declared.view.View.{View}
+use Rattle.cqs_rule_laws.specs.Causes as laws
+use Rattle.cqs_rule_laws.specs.Layout.{suspends_place, client_place}
+use Rattle.cqs_rule_laws.specs.Lists.{IsPrefix}
+use Rattle.cqs_rule_laws.specs.Object.{Primitive}
 use Rattle.cqs_latch.specs.declared.client.LatchClient.{LatchClient}
 use Rattle.cqs_latch.specs.Latch.{latch_primitive}
 use Rattle.cqs_latch.specs.LatchMade.{count_of, mode_of}
 use Rattle.cqs_latch.specs.LatchTold.{latch_after}
-
--- the cell of the number k in this state, with this payload
-abbrev pub cell_of : ℕ → CoreState → ℕ → Glimpse
-cell_of k state payload = record { number = k; state = state; payload = payload }
 
 module _ {T : Type 0} where
   abbrev pub primitive_of : LatchClient T → Primitive LatchEntry T
@@ -46,21 +40,9 @@ module _ {T : Type 0} where
     pub found : (earlier : List Sighting) × (later : List Sighting)
         × (w.facts.found ≡ v.facts.found ++ (earlier ++ Word suspends_place n ∷ later))
 
-  -- The last step of the call found the cell of the number k in this state: the table's word says
-  -- so, and the cell was so at the end of all that the pass has seen before these entries.
-  pub record CellWas (state : CoreState) (k : ℕ) (own : List LatchEntry) (w : View LatchEntry T)
-      : Type 0 where
-    pub word : ℕ
-    pub payload : ℕ
-    pub cell : FoundCell word (cell_of k state payload)
-    pub found : (earlier : List Sighting) × (w.facts.found ≡ earlier ++ Cell k word ∷ [])
-    pub was : WasFound primitive_of (HasCell (cell_of k state payload)) own w
+  -- a step of the call found the cell of the number k in this state: its last step, or any
+  abbrev pub CellWas : CoreState → ℕ → List LatchEntry → View LatchEntry T → Type 0
+  CellWas state k own w = laws.CellWas primitive_of state k own w
 
-  -- it was so somewhere in the call
-  pub record CellWasOnce (state : CoreState) (k : ℕ) (v w : View LatchEntry T) : Type 0 where
-    pub word : ℕ
-    pub payload : ℕ
-    pub cell : FoundCell word (cell_of k state payload)
-    pub found : (earlier : List Sighting) × (later : List Sighting)
-        × (w.facts.found ≡ v.facts.found ++ (earlier ++ Cell k word ∷ later))
-    pub was : WasSo primitive_of (HasCell (cell_of k state payload)) w
+  abbrev pub CellWasOnce : CoreState → ℕ → View LatchEntry T → View LatchEntry T → Type 0
+  CellWasOnce state k v w = laws.CellWasOnce primitive_of state k v w

@@ -4,20 +4,22 @@ use Rattle.cqs_core.specs.declared.doings.Doing.TheVariants as doing
 use Rattle.cqs_latch_object.specs.declared.entries.LatchEntry.{LatchEntry}
 use Rattle.cqs_latch_object.specs.declared.entries.LatchEntry.TheVariants as entry
 use Rattle.cqs_resume.specs.Resumes.{most_passed_over}
-use Rattle.cqs_views.specs.declared.view.Facts.{Facts}
-use Rattle.cqs_views.specs.declared.view.View.{View}
+use Rattle.cqs_rule_laws.specs.declared.view.Facts.{Facts}
+use Rattle.cqs_rule_laws.specs.declared.view.View.{View}
 use Rattle.cqs_words.specs.State.{count_in}
 use Rattle.cqs_words.specs.Waiters.{waiters_in}
 use Rattle.cqs_latch.specs.declared.answers.Owed.{Owed}
 use Rattle.cqs_latch.specs.declared.answers.Down.{Down}
 use Rattle.cqs_latch.specs.declared.answers.Down.TheVariants.{Left, Last, LastOwing, Already}
 use Rattle.cqs_latch.specs.Answers.{WasUsed}
-use Rattle.cqs_latch.specs.Calls.{IsReady, CallRule, CallRuleEnding, Rests}
+use Rattle.cqs_rule_laws.specs.CallRule.{IsReady}
+use Rattle.cqs_latch.specs.Calls.{CallRule, CallRuleEnding, Rests}
+use Rattle.cqs_rule_laws.specs.Causes.{PassedOver}
 use Rattle.cqs_latch.specs.Causes.{WordWas}
 use Rattle.cqs_latch.specs.Entries.{counted_entries}
 use Rattle.cqs_latch.specs.Owed.{HasOwed, owed_under, owed_further, owed_reached}
 use Rattle.cqs_latch.specs.LatchTold.{ReadsCount, ReadsWaiters}
-use Rattle.cqs_latch.specs.Waking.{Ending, woken_entries, Woke, NextHanded, OnEnded, OnHanded, PassedOver}
+use Rattle.cqs_latch.specs.Waking.{Ending, woken_entries, Woke, NextHanded, OnEnded, OnHanded}
 
 -- the pass is between two calls, unless it owes what was handed back
 abbrev pub IsReadyAfter : Down → Facts → Type 0

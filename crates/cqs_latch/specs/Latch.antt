@@ -9,13 +9,13 @@ use Rattle.cqs_latch_object.specs.LatchNames.{entry_names}
 use Rattle.cqs_latch_object.specs.LatchShown.{LatchShape, IsLatchCore}
 use Rattle.cqs_latch_object.specs.LatchSteps.{step_entries}
 use Rattle.cqs_resume.specs.AtOnce.{IsPlain}
-use Rattle.cqs_views.specs.declared.view.Has.{Has}
-use Rattle.cqs_views.specs.declared.config.CancelMode.{CancelMode}
-use Rattle.cqs_views.specs.declared.config.CancelMode.TheVariants.{Smart, Simple}
-use Rattle.cqs_views.specs.Client.{no_number}
-use Rattle.cqs_views.specs.Hidden.{Hidden, Gains}
-use Rattle.cqs_views.specs.Manner.{Manner, asks, at_once, owed_further}
-use Rattle.cqs_views.specs.Object.{Object, Primitive}
+use Rattle.cqs_rule_laws.specs.declared.view.Has.{Has}
+use Rattle.cqs_rule_laws.specs.declared.config.CancelMode.{CancelMode}
+use Rattle.cqs_rule_laws.specs.declared.config.CancelMode.TheVariants.{Smart, Simple}
+use Rattle.cqs_rule_laws.specs.Client.{no_number}
+use Rattle.cqs_rule_laws.specs.Hidden.{Hidden, Gains}
+use Rattle.cqs_rule_laws.specs.Manner.{Manner, asks, at_once, owed_further}
+use Rattle.cqs_rule_laws.specs.Object.{Object, Primitive}
 use Rattle.cqs_words.specs.State.{state_word, count_in}
 use Rattle.cqs_words.specs.Waiters.{waiters_word, waiters_in, is_done}
 

@@ -28,15 +28,15 @@ use Rattle.cqs_latch_object.proofs.LatchSteps.{step-core}
 use Rattle.cqs_latch_object.proofs.LatchRuns.{opens-core}
 use Rattle.cqs_latch_object.proofs.LatchBounds.{core-sound, core-reaches_few, core-begins_few}
 use Rattle.cqs_resume.specs.AtOnce.{IsPlain}
-use Rattle.cqs_views.specs.declared.view.Has.{Has}
-use Rattle.cqs_views.specs.declared.config.CancelMode.{CancelMode}
-use Rattle.cqs_views.specs.declared.config.CancelMode.TheVariants.{Smart, Simple}
-use Rattle.cqs_views.specs.Client.{IsClient, IsPaid, IsPayload, IsBegun, begun_by, no_number}
-use Rattle.cqs_views.specs.Hidden.{Hidden, hidden_after, has_after, has_gained, has_paid, has_both, has_none, hands_over}
-use Rattle.cqs_views.specs.Lists.{NamesOnly}
-use Rattle.cqs_views.specs.Manner.{Suits}
-use Rattle.cqs_views.specs.Opened.{first_hidden, four}
-use Rattle.cqs_views.specs.Views.{first_has}
+use Rattle.cqs_rule_laws.specs.declared.view.Has.{Has}
+use Rattle.cqs_rule_laws.specs.declared.config.CancelMode.{CancelMode}
+use Rattle.cqs_rule_laws.specs.declared.config.CancelMode.TheVariants.{Smart, Simple}
+use Rattle.cqs_rule_laws.specs.Client.{IsClient, IsPaid, IsPayload, IsBegun, begun_by, no_number}
+use Rattle.cqs_rule_laws.specs.Hidden.{Hidden, hidden_after, has_after, has_gained, has_paid, has_both, has_none, hands_over}
+use Rattle.cqs_rule_laws.specs.Lists.{NamesOnly}
+use Rattle.cqs_rule_laws.specs.Manner.{Suits}
+use Rattle.cqs_rule_laws.specs.Opened.{first_hidden, four}
+use Rattle.cqs_rule_laws.specs.Views.{first_has}
 use Rattle.cqs_latch.specs.Latch.{is_simple, further_of, latch_shown, HoldsNothing, HoldsPlain, ShowsLatch, nothing_more, latch_object, latch_manner, latch_primitive}
 use Rattle.cqs_words.specs.State.{state_word, count_in}
 use Rattle.cqs_words.specs.Waiters.{waiters_word}

@@ -5,8 +5,8 @@ use Rattle.cqs_core.specs.declared.doings.Doing.TheVariants as doing
 use Rattle.cqs_latch_object.specs.declared.entries.LatchEntry.{LatchEntry}
 use Rattle.cqs_latch_object.specs.declared.entries.LatchEntry.TheVariants as entry
 use Rattle.cqs_latch_object.specs.LatchWords.{loaded_entries, loaded_doing, counted_entry, counted_doing, come_entry, come_doing}
-use Rattle.cqs_views.specs.Events.{Moment, Event}
-use Rattle.cqs_views.specs.Ruled.{number_at}
+use Rattle.cqs_rule_laws.specs.Events.{Moment, Event}
+use Rattle.cqs_rule_laws.specs.Ruled.{number_at}
 use Rattle.cqs_words.specs.State.{count_in}
 use Rattle.cqs_words.specs.Waiters.{waiters_in, is_done}
 

@@ -5,11 +5,11 @@ use Rattle.cqs_latch_object.specs.LatchObject.{Latch, due}
 use Rattle.cqs_latch_object.specs.LatchEntries.{object_after}
 use Rattle.cqs_latch_object.specs.LatchShown.{left_of}
 use Rattle.cqs_latch.specs.Latch.{is_simple, latch_object}
-use Rattle.cqs_views.specs.declared.view.View.{View}
-use Rattle.cqs_views.specs.Events.{Event, Moment, moment, facts_moved, in_any_case}
-use Rattle.cqs_views.specs.Facts.{facts_counted}
-use Rattle.cqs_views.specs.Layout.{client_place}
-use Rattle.cqs_views.specs.Saw.{Saw}
+use Rattle.cqs_rule_laws.specs.declared.view.View.{View}
+use Rattle.cqs_rule_laws.specs.Events.{Event, Moment, moment, facts_moved, in_any_case}
+use Rattle.cqs_rule_laws.specs.Facts.{facts_counted}
+use Rattle.cqs_rule_laws.specs.Layout.{client_place}
+use Rattle.cqs_rule_laws.specs.Saw.{Saw}
 use Rattle.cqs_words.specs.State.{count_in}
 use Rattle.cqs_words.specs.Waiters.{waiters_in, is_done}
 

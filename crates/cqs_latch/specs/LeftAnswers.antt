@@ -4,20 +4,22 @@ use Rattle.cqs_core.specs.declared.cells.CoreState.TheVariants as state
 use Rattle.cqs_latch_object.specs.declared.entries.LatchEntry.{LatchEntry}
 use Rattle.cqs_latch_object.specs.declared.entries.LatchEntry.TheVariants as entry
 use Rattle.cqs_resume.specs.Resumes.{most_passed_over}
-use Rattle.cqs_views.specs.declared.config.CancelMode.{CancelMode}
-use Rattle.cqs_views.specs.declared.config.CancelMode.TheVariants.{Smart, Simple}
-use Rattle.cqs_views.specs.declared.view.Facts.{Facts}
-use Rattle.cqs_views.specs.declared.view.View.{View}
-use Rattle.cqs_views.specs.Lists.{without}
+use Rattle.cqs_rule_laws.specs.declared.config.CancelMode.{CancelMode}
+use Rattle.cqs_rule_laws.specs.declared.config.CancelMode.TheVariants.{Smart, Simple}
+use Rattle.cqs_rule_laws.specs.declared.view.Facts.{Facts}
+use Rattle.cqs_rule_laws.specs.declared.view.View.{View}
+use Rattle.cqs_rule_laws.specs.Lists.{without}
 use Rattle.cqs_words.specs.Waiters.{is_done}
 use Rattle.cqs_latch.specs.declared.answers.LatchLeft.{LatchLeft}
 use Rattle.cqs_latch.specs.declared.answers.LatchLeft.TheVariants.{Gone, GoneOwing, TooLate}
-use Rattle.cqs_latch.specs.Calls.{IsReady, CallRuleEnding, Rests}
+use Rattle.cqs_rule_laws.specs.CallRule.{IsReady}
+use Rattle.cqs_latch.specs.Calls.{CallRuleEnding, Rests}
+use Rattle.cqs_rule_laws.specs.Causes.{PassedOver}
 use Rattle.cqs_latch.specs.Causes.{WordWas, CellWas, CellWasOnce}
 use Rattle.cqs_latch.specs.Entries.{left_entries}
 use Rattle.cqs_latch.specs.Owed.{HasOwed, owed_further}
 use Rattle.cqs_latch.specs.LatchTold.{ReadsWaiters}
-use Rattle.cqs_latch.specs.Waking.{Ending, woken_entries, EndsSo, PassedOver}
+use Rattle.cqs_latch.specs.Waking.{Ending, woken_entries, EndsSo}
 
 -- the pass is between two calls, unless it owes what was handed back
 abbrev pub IsReadyLeft : LatchLeft → Facts → Type 0

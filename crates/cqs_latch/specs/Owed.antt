@@ -1,7 +1,7 @@
 -- What contracts see of the resumptions that are still owed of an opened latch.
 use Rattle.std.specs.Prelude.{◌≡◌, ℕ, ◌<◌}
 use Rattle.cqs_rule.specs.declared.queue.tokens.Under.{Under}
-use Rattle.cqs_views.specs.declared.view.Facts.{Facts}
+use Rattle.cqs_rule_laws.specs.declared.view.Facts.{Facts}
 use Rattle.cqs_rule.specs.Owed.{HasUnder, under_payload, under_reached}
 use Rattle.cqs_latch.specs.declared.answers.Owed.{Owed}
 

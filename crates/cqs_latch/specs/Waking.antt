@@ -10,7 +10,7 @@ use Rattle.cqs_resume.specs.AtOnce.{BegunAtOnce, FinishedAtOnce}
 use Rattle.cqs_resume.specs.Begins.{Begun}
 use Rattle.cqs_resume.specs.Resumes.{Resumes, most_passed_over}
 use Rattle.cqs_rule.specs.declared.queue.tokens.Under.{Under}
-use Rattle.cqs_views.specs.declared.view.View.{View}
+use Rattle.cqs_rule_laws.specs.declared.view.View.{View}
 use Rattle.cqs_rule.specs.Owed.{under_payload, under_ticket, under_reached}
 use Rattle.cqs_latch.specs.declared.answers.Owed.{Owed}
 use Rattle.cqs_latch.specs.Causes.{primitive_of, CellWas}
@@ -118,9 +118,3 @@ module _ {T : Type 0} where
       (ends : List Ending) × (u : View LatchEntry T)
       × (length ends + 1 + owed_further owed ≡ many) × Woke ends v u
       × NextHanded (owed_under owed) u w
-
-  -- the call passed over so many numbers, or more
-  pub record PassedOver (many : ℕ) (v w : View LatchEntry T) : Type 0 where
-    pub over : List ℕ
-    pub passed : w.facts.passed ≡ v.facts.passed ++ over
-    pub many_are : many ≤ length over

@@ -3,13 +3,14 @@
 ghost use Rattle.std.specs.Prelude.{◌≡◌, true};
 ghost use Rattle.cqs_core.specs.declared.doings.Doing.TheVariants as doing;
 ghost use Rattle.cqs_latch.specs.Alone.{IsPlainCancel};
-ghost use Rattle.cqs_latch.specs.Calls.{IsReady, IsMine, KeepsOtherWaits};
+ghost use Rattle.cqs_rule_laws.specs.CallRule.{IsReady};
+ghost use Rattle.cqs_latch.specs.Calls.{IsMine, KeepsOtherWaits};
 ghost use Rattle.cqs_latch.specs.LatchMade.{mode_of};
 ghost use Rattle.cqs_latch.specs.LeftAnswers.{HasLeft, IsReadyLeft};
 ghost use Rattle.cqs_latch.specs.Steps.{GoesOn, as_left};
 ghost use Rattle.cqs_rule.specs.Passes.{pass_view, client_of};
 ghost use Rattle.cqs_rule.specs.Waits.{place_of, HasWait};
-ghost use Rattle.cqs_views.specs.declared.config.CancelMode.TheVariants.{Smart, Simple};
+ghost use Rattle.cqs_rule_laws.specs.declared.config.CancelMode.TheVariants.{Smart, Simple};
 
 use crate::answers::{LatchLeft, Owed};
 use crate::latch::{Latch, LatchPass};

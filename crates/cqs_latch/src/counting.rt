@@ -6,9 +6,10 @@ ghost use Rattle.cqs_latch.specs.Alone.{FinishesInOrder, IsPlainCount, IsPlainFi
 ghost use Rattle.cqs_latch.specs.CountAnswers.{HasCounted, HasFinished, IsReadyAfter, OwesNothing};
 ghost use Rattle.cqs_latch.specs.LatchMade.{mode_of};
 ghost use Rattle.cqs_latch.specs.Owed.{HasOwed};
-ghost use Rattle.cqs_latch.specs.Calls.{IsReady, IsMine, KeepsWaits};
+ghost use Rattle.cqs_rule_laws.specs.CallRule.{IsReady};
+ghost use Rattle.cqs_latch.specs.Calls.{IsMine, KeepsWaits};
 ghost use Rattle.cqs_rule.specs.Passes.{pass_view, client_of};
-ghost use Rattle.cqs_views.specs.declared.config.CancelMode.TheVariants.{Simple, Smart};
+ghost use Rattle.cqs_rule_laws.specs.declared.config.CancelMode.TheVariants.{Simple, Smart};
 
 use crate::answers::{Down, Owed};
 use crate::events::resumptions_for;

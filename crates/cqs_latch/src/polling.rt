@@ -3,7 +3,8 @@
 ghost use Rattle.std.specs.Prelude.{◌≡◌, true, []};
 ghost use Rattle.cqs_latch.specs.Alone.{IsPlainPoll};
 ghost use Rattle.cqs_latch.specs.Answers.{IsPolled};
-ghost use Rattle.cqs_latch.specs.Calls.{IsReady, IsMine, CallRule, KeepsOtherWaits};
+ghost use Rattle.cqs_rule_laws.specs.CallRule.{IsReady};
+ghost use Rattle.cqs_latch.specs.Calls.{IsMine, CallRule, KeepsOtherWaits};
 ghost use Rattle.cqs_latch.specs.Entries.{polled_entries};
 ghost use Rattle.cqs_rule.specs.Passes.{pass_view};
 ghost use Rattle.cqs_rule.specs.Waits.{place_of, HasWait};

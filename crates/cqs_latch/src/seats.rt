@@ -1,14 +1,16 @@
 //! How a pass makes another, and how two become one.
 
-ghost use Rattle.std.specs.Prelude.{◌≡◌, ◌++◌, ◌≤◌, true, IsTrue, IsErr, IfOk, IfErr, OnErr, OnOk};
+ghost use Rattle.std.specs.Prelude.{◌≡◌, ◌⊎◌, ◌++◌, ◌≤◌, true, IsTrue, IsErr, IfOk, IfErr, OnErr, OnOk};
 ghost use mathlib.Core.Logic.{◌↔◌};
-ghost use Rattle.cqs_latch.specs.Calls.{IsReady, IsMine, KeepsWaits};
+ghost use Rattle.cqs_rule_laws.specs.CallRule.{IsReady};
+ghost use Rattle.cqs_latch.specs.Calls.{IsMine, KeepsWaits};
 ghost use Rattle.cqs_latch.specs.Latch.{latch_object};
 ghost use Rattle.cqs_latch.specs.Seats.{LookedOn, SeesAll};
-ghost use Rattle.cqs_views.specs.Crew.{IsBetween, Came};
+ghost use Rattle.cqs_rule_laws.specs.Crew.{IsBetween, Came};
 ghost use Rattle.cqs_rule.specs.Passes.{pass_view, passes_of};
 ghost use Rattle.cqs_rule.specs.Seats.{IsBusy, HasMet};
-ghost use Rattle.cqs_views.specs.Views.{made_in, live_in};
+ghost use Rattle.cqs_rule_laws.specs.Lists.{IsPrefix};
+ghost use Rattle.cqs_rule_laws.specs.Views.{made_in, live_in};
 
 use crate::latch::{Latch, LatchPass};
 use cqs_rule::{Carries, Crowd, MeetError};
@@ -71,5 +73,24 @@ impl<T: Carries + Send> Latch<T> {
         ensures others { IsTrue result → SeesAll (pass_view pass.new) }
     {
         self.queue.sole(pass)
+    }
+
+    /// The pass has then seen all that the other one has seen by now. So what two passes of one
+    /// latch have seen are beginnings of one history, whether they ever meet or not.
+    pub fn catch_up(&self, pass: &mut LatchPass<T>, other: &mut LatchPass<T>)
+        requires belongs { IsMine self.now pass.old }
+        requires other_belongs { IsMine self.now other.old }
+        ensures belongs { IsMine self.now pass.new }
+        ensures other_belongs { IsMine self.now other.new }
+        ensures looked { LookedOn (pass_view pass.old) (pass_view pass.new) }
+        ensures keeps { KeepsWaits (pass_view pass.old) (pass_view pass.new) }
+        ensures kept { (pass_view pass.old).alone ≡ true → (pass_view pass.new).alone ≡ true }
+        ensures ready { IsReady (pass_view pass.old).facts → IsReady (pass_view pass.new).facts }
+        ensures other_stays { pass_view other.new ≡ pass_view other.old }
+        ensures all { IsPrefix (pass_view other.old).seen (pass_view pass.new).seen }
+        ensures one_history { IsPrefix (pass_view pass.old).seen (pass_view other.old).seen
+            ⊎ IsPrefix (pass_view other.old).seen (pass_view pass.old).seen }
+    {
+        self.queue.catch_up(pass, other)
     }
 }

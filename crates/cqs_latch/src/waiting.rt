@@ -4,7 +4,8 @@ ghost use Rattle.std.specs.Prelude.{◌≡◌, true};
 ghost use Rattle.cqs_core.specs.declared.doings.Doing.TheVariants as doing;
 ghost use Rattle.cqs_latch.specs.Alone.{IsPlainWait};
 ghost use Rattle.cqs_latch.specs.Answers.{HasWaited};
-ghost use Rattle.cqs_latch.specs.Calls.{IsReady, IsMine, KeepsWaits};
+ghost use Rattle.cqs_rule_laws.specs.CallRule.{IsReady};
+ghost use Rattle.cqs_latch.specs.Calls.{IsMine, KeepsWaits};
 ghost use Rattle.cqs_latch.specs.Steps.{WaitsInLine};
 ghost use Rattle.cqs_rule.specs.Passes.{pass_view};
 

@@ -9,7 +9,7 @@ ghost use Rattle.cqs_latch.specs.Owed.{owed_reached};
 ghost use Rattle.cqs_latch.specs.Waking.{HasGrown, Next, On, Wakes};
 ghost use Rattle.cqs_rule.specs.Owed.{HasUnder, under_reached};
 ghost use Rattle.cqs_rule.specs.Passes.{pass_view, client_of};
-ghost use Rattle.cqs_views.specs.declared.config.CancelMode.TheVariants.{Smart, Simple};
+ghost use Rattle.cqs_rule_laws.specs.declared.config.CancelMode.TheVariants.{Smart, Simple};
 
 use crate::answers::Owed;
 use crate::latch::{Latch, LatchPass};

@@ -1,4 +1,9 @@
-//! The count-down latch as a plain object, and what a queue with a latch's words shows of it.
+//! The count-down latch as a plain object: what it is to its users, the entries of its history, and
+//! what a queue with a latch's words shows of it.
+//!
+//! The object has the count that is left, whether it is open, the resumptions that are on their way
+//! to those who wait, and the line of waiters. Each law is a function that does nothing: a law is
+//! proved where the contract of a function says it.
 #![tactic(auto)]
 
 mod entries;

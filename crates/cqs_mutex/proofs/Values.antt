@@ -2,12 +2,12 @@
 use Rattle.std.proofs.Common.{◌≡◌, ◌≢◌, ℕ, ◌+◌, ◌==◌, Bool, true, false, List, [], ◌∷◌, ◌++◌, sym, refl, ap, ◌∙◌, subst, Option, Some, None, if◌then◌else◌, Result, Ok, Err}
 use Rattle.std.specs.Prelude.{IfOk, OnOk, OnErr}
 use Rattle.cqs_core.specs.declared.entries.Entry.{Entry}
-use Rattle.cqs_views.specs.declared.carries.Kept.{Kept}
-use Rattle.cqs_views.specs.declared.view.View.{View}
-use Rattle.cqs_views.specs.Lists.{IsPrefix, without}
-use Rattle.cqs_views.specs.Slots.{laid_in, handed_in, or_else}
-use Rattle.cqs_views.specs.SlotSteps.{LayIn}
-use Rattle.cqs_views.proofs.Handing.{handed-here}
+use Rattle.cqs_rule_laws.specs.declared.carries.Kept.{Kept}
+use Rattle.cqs_rule_laws.specs.declared.view.View.{View}
+use Rattle.cqs_rule_laws.specs.Lists.{IsPrefix, without}
+use Rattle.cqs_rule_laws.specs.Slots.{laid_in, handed_in, or_else}
+use Rattle.cqs_rule_laws.specs.SlotSteps.{LayIn}
+use Rattle.cqs_rule_laws.proofs.Handing.{handed-here}
 use Rattle.cqs_semaphore.specs.declared.answers.Released.{Released}
 use Rattle.cqs_semaphore.specs.declared.answers.Released.TheVariants as released
 use Rattle.cqs_rule.specs.declared.queue.tokens.Under.{Under}

@@ -1,15 +1,15 @@
 -- What holds of a mutex and of its passes between two calls.
 use Rattle.std.specs.Prelude.{◌≡◌, ℕ, true, List, [], ◌∷◌, ◌++◌, Some, None, Result, Ok, Err}
 use Rattle.cqs_core.specs.declared.entries.Entry.{Entry}
-use Rattle.cqs_views.specs.declared.client.ClientWords.{Ghosts}
-use Rattle.cqs_views.specs.declared.config.Config.{Config}
-use Rattle.cqs_views.specs.declared.config.MakeError.{MakeError}
-use Rattle.cqs_views.specs.declared.config.MakeError.TheVariants.{BadConfig}
+use Rattle.cqs_rule_laws.specs.declared.client.ClientWords.{Ghosts}
+use Rattle.cqs_rule_laws.specs.declared.config.Config.{Config}
+use Rattle.cqs_rule_laws.specs.declared.config.MakeError.{MakeError}
+use Rattle.cqs_rule_laws.specs.declared.config.MakeError.TheVariants.{BadConfig}
 use Rattle.cqs_rule.specs.declared.queue.Pass.{Pass}
 use Rattle.cqs_semaphore_client.specs.declared.semaphore.SemClient.{SemClient}
-use Rattle.cqs_views.specs.declared.carries.Kept.{Kept}
+use Rattle.cqs_rule_laws.specs.declared.carries.Kept.{Kept}
 use Rattle.cqs_rule.specs.Passes.{pass_view, passes_of, limit_of}
-use Rattle.cqs_views.specs.Slots.{laid_in, handed_in}
+use Rattle.cqs_rule_laws.specs.Slots.{laid_in, handed_in}
 use Rattle.cqs_semaphore.specs.Calls.{Rests, IsMine}
 use Rattle.cqs_mutex.specs.declared.mutex.Mutex.{Mutex}
 use Rattle.cqs_mutex.specs.Values.{in_slot}

@@ -1,11 +1,11 @@
 -- How the value of a mutex moves between its slot and a guard.
 use Rattle.std.specs.Prelude.{◌≡◌, ℕ, List, ◌∷◌, Some, None}
 use Rattle.cqs_core.specs.declared.entries.Entry.{Entry}
-use Rattle.cqs_views.specs.declared.carries.Kept.{Kept}
-use Rattle.cqs_views.specs.declared.view.View.{View}
-use Rattle.cqs_views.specs.Lists.{IsPrefix}
-use Rattle.cqs_views.specs.Slots.{handed_in}
-use Rattle.cqs_views.specs.SlotSteps.{Swapped}
+use Rattle.cqs_rule_laws.specs.declared.carries.Kept.{Kept}
+use Rattle.cqs_rule_laws.specs.declared.view.View.{View}
+use Rattle.cqs_rule_laws.specs.Lists.{IsPrefix}
+use Rattle.cqs_rule_laws.specs.Slots.{handed_in}
+use Rattle.cqs_rule_laws.specs.SlotSteps.{Swapped}
 
 -- a value as it lies in the slot
 abbrev pub in_slot : {T : Type 0} → T → Kept T

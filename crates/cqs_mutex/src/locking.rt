@@ -2,7 +2,7 @@
 
 ghost use Rattle.std.specs.Prelude.{IsErrOf};
 ghost use Rattle.cqs_rule.specs.Passes.{pass_view};
-ghost use Rattle.cqs_semaphore.specs.Calls.{IsReady};
+ghost use Rattle.cqs_rule_laws.specs.CallRule.{IsReady};
 ghost use Rattle.cqs_mutex.specs.Calls.{HasLocked, HasTried, LockedHolds, TriedHolds};
 ghost use Rattle.cqs_mutex.specs.Mutexes.{Belongs};
 

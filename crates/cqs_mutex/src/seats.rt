@@ -1,13 +1,15 @@
 //! How a pass makes another, and how two become one.
 
-ghost use Rattle.std.specs.Prelude.{◌≡◌, ◌++◌, ◌≤◌, [], true, IsTrue, IsErr, IfOk, IfErr, OnErr, OnOk};
+ghost use Rattle.std.specs.Prelude.{◌≡◌, ◌⊎◌, ◌++◌, ◌≤◌, [], true, IsTrue, IsErr, IfOk, IfErr, OnErr, OnOk};
 ghost use mathlib.Core.Logic.{◌↔◌};
-ghost use Rattle.cqs_views.specs.Crew.{IsBetween, Came};
+ghost use Rattle.cqs_rule_laws.specs.Crew.{IsBetween, Came};
 ghost use Rattle.cqs_rule.specs.Passes.{pass_view, passes_of};
 ghost use Rattle.cqs_rule.specs.Seats.{IsBusy, HasMet};
 ghost use Rattle.cqs_semaphore_client.specs.Semaphore.{semaphore_object};
-ghost use Rattle.cqs_views.specs.Views.{made_in, live_in};
-ghost use Rattle.cqs_semaphore.specs.Calls.{IsReady, Course};
+ghost use Rattle.cqs_rule_laws.specs.Lists.{IsPrefix};
+ghost use Rattle.cqs_rule_laws.specs.Views.{made_in, live_in};
+ghost use Rattle.cqs_rule_laws.specs.CallRule.{IsReady};
+ghost use Rattle.cqs_semaphore.specs.Calls.{Course};
 ghost use Rattle.cqs_semaphore.specs.Seats.{LookedOn, SeesAll};
 ghost use Rattle.cqs_mutex.specs.Mutexes.{Belongs};
 
@@ -71,5 +73,23 @@ impl<T: Send + Drop> Mutex<T> {
         ensures others { IsTrue result → SeesAll (pass_view pass.new) }
     {
         self.semaphore.sole(pass)
+    }
+
+    /// The pass has then seen all that the other one has seen by now. So what two passes of one
+    /// mutex have seen are beginnings of one history, whether they ever meet or not.
+    pub fn catch_up(&self, pass: &mut MutexPass<T>, other: &mut MutexPass<T>)
+        requires belongs { Belongs self.now pass.old }
+        requires other_belongs { Belongs self.now other.old }
+        ensures belongs { Belongs self.now pass.new }
+        ensures other_belongs { Belongs self.now other.new }
+        ensures looked { LookedOn (pass_view pass.old) (pass_view pass.new) }
+        ensures kept { (pass_view pass.old).alone ≡ true → (pass_view pass.new).alone ≡ true }
+        ensures ready { IsReady (pass_view pass.old).facts → IsReady (pass_view pass.new).facts }
+        ensures other_stays { pass_view other.new ≡ pass_view other.old }
+        ensures all { IsPrefix (pass_view other.old).seen (pass_view pass.new).seen }
+        ensures one_history { IsPrefix (pass_view pass.old).seen (pass_view other.old).seen
+            ⊎ IsPrefix (pass_view other.old).seen (pass_view pass.old).seen }
+    {
+        self.semaphore.catch_up(pass, other)
     }
 }

@@ -3,7 +3,8 @@
 ghost use Rattle.std.specs.Prelude.{◌≡◌, []};
 ghost use Rattle.cqs_core.specs.SemaphoreShown.{state_of};
 ghost use Rattle.cqs_rule.specs.Passes.{pass_view};
-ghost use Rattle.cqs_semaphore.specs.Calls.{IsReady, Rests, CallRule, plain_after};
+ghost use Rattle.cqs_rule_laws.specs.CallRule.{IsReady};
+ghost use Rattle.cqs_semaphore.specs.Calls.{Rests, CallRule, plain_after};
 ghost use Rattle.cqs_semaphore.specs.Causes.{StateWas};
 ghost use Rattle.cqs_mutex.specs.Mutexes.{Belongs};
 

@@ -1,13 +1,14 @@
 //! The unlock, and the end of one.
 
 ghost use Rattle.std.specs.Prelude.{◌≡◌, ◌<◌, true, [], IsOk, IfOk};
-ghost use Rattle.cqs_views.specs.Crew.{IsBetween};
+ghost use Rattle.cqs_rule_laws.specs.Crew.{IsBetween};
 ghost use Rattle.cqs_rule.specs.Owed.{HasUnder, under_reached};
 ghost use Rattle.cqs_rule.specs.Passes.{pass_view};
-ghost use Rattle.cqs_views.specs.SlotSteps.{WasHandedIn};
+ghost use Rattle.cqs_rule_laws.specs.SlotSteps.{WasHandedIn};
 ghost use Rattle.cqs_semaphore.specs.Alone.{IsPlainEnd, IsTurnedBack};
 ghost use Rattle.cqs_semaphore.specs.Answers.{Ends};
-ghost use Rattle.cqs_semaphore.specs.Calls.{IsMine, IsReady, CallRule, plain_after};
+ghost use Rattle.cqs_rule_laws.specs.CallRule.{IsReady};
+ghost use Rattle.cqs_semaphore.specs.Calls.{IsMine, CallRule, plain_after};
 ghost use Rattle.cqs_semaphore.specs.Entries.{resumed_further};
 ghost use Rattle.cqs_semaphore.specs.Steps.{IsFurther};
 ghost use Rattle.cqs_mutex.specs.Calls.{HasUnlocked, UnlockLeaves};

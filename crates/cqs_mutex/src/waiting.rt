@@ -1,12 +1,12 @@
 //! What a caller does with a wait.
 
 ghost use Rattle.std.specs.Prelude.{◌≡◌};
-ghost use Rattle.cqs_views.specs.Crew.{IsBetween};
-ghost use Rattle.cqs_views.specs.Lists.{Has};
+ghost use Rattle.cqs_rule_laws.specs.Crew.{IsBetween};
+ghost use Rattle.cqs_rule_laws.specs.Lists.{Has};
 ghost use Rattle.cqs_rule.specs.Passes.{pass_view};
-ghost use Rattle.cqs_views.specs.Placed.{KnowsPlace};
+ghost use Rattle.cqs_rule_laws.specs.Placed.{KnowsPlace};
 ghost use Rattle.cqs_rule.specs.Waits.{HasWait, pass_of, place_of};
-ghost use Rattle.cqs_semaphore.specs.Calls.{IsReady};
+ghost use Rattle.cqs_rule_laws.specs.CallRule.{IsReady};
 ghost use Rattle.cqs_mutex.specs.Calls.{HasPolled, HasLeft, PolledHolds, LeftHolds};
 ghost use Rattle.cqs_mutex.specs.Guards.{wait_in};
 ghost use Rattle.cqs_mutex.specs.Mutexes.{Belongs};

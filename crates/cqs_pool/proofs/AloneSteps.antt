@@ -31,11 +31,11 @@ use Rattle.cqs_pool_object.specs.PoolNames.{entry_names}
 use Rattle.cqs_pool_object.specs.PoolObject.{Pool, opening, IsGiven}
 use Rattle.cqs_pool_object.specs.PoolOrder.{IsByOne, IsFirstOnWay}
 use Rattle.cqs_pool_object.proofs.PoolOrder.{first-taken}
-use Rattle.cqs_views.specs.declared.view.View.{View}
-use Rattle.cqs_views.specs.declared.view.Opening.{Opening}
-use Rattle.cqs_views.specs.Alone.{IsAlone, TellsAlone}
-use Rattle.cqs_views.specs.Hidden.{state_at, state_in}
-use Rattle.cqs_views.specs.Lists.{Has, IsDistinct}
+use Rattle.cqs_rule_laws.specs.declared.view.View.{View}
+use Rattle.cqs_rule_laws.specs.declared.view.Opening.{Opening}
+use Rattle.cqs_rule_laws.specs.Alone.{IsAlone, TellsAlone}
+use Rattle.cqs_rule_laws.specs.Hidden.{state_at, state_in}
+use Rattle.cqs_rule_laws.specs.Lists.{Has, IsDistinct}
 use Rattle.cqs_pool.specs.declared.answers.Placed.{Placed}
 use Rattle.cqs_pool.specs.declared.answers.Placed.TheVariants.{Sent, Left, Under}
 use Rattle.cqs_pool.specs.Alone.{IsFirstOf, CanEnd, IsPlainPut, IsPlainEnd, IsOnlyCaller}
@@ -45,7 +45,7 @@ use Rattle.cqs_pool.specs.Causes.{primitive_of, CellHad}
 use Rattle.cqs_pool.specs.Entries.{placed_further}
 use Rattle.cqs_pool.specs.Pool.{HasEach, ShowsPool, pool_shown}
 use Rattle.cqs_pool.specs.PoolSize.{elements_of}
-use Rattle.cqs_pool.proofs.Rules.{part-others}
+use Rattle.cqs_rule_laws.proofs.Rules.{part-others}
 
 -- an entry of a legal history may come after those before it
 allowed-at : (size : ℕ) (h mid rest all : List PoolEntry) (e : PoolEntry) → all ≡ h ++ (mid ++ e ∷ rest)
@@ -345,7 +345,8 @@ module _ {T : Type 0} where
       let place = value-cell was.hidden.queue k was.holds.0 in
       let by : IsByOne v.number log =
       λ n other. filter-append (entry_names n) v.seen (entry.Enter v.number k ∷ [])
-      ∙ (λ i. only.1 n other i ++ part-others v.number (entry.Enter v.number k ∷ []) (λ m. refl, tt) n other i) in
+      ∙ (λ i. only.1 n other i
+      ++ part-others entry_names v.number (entry.Enter v.number k ∷ []) (λ m. refl, tt) n other i) in
       let first = first-taken (pool_shown v.opening.size was.hidden log) v.number k place.0 shows.is_pool
       shows.in_order by place.1 place.2 (omega arith) in
       let brings : was.hidden.payloads k ≡ e = was.holds.1 ∙ had.1 in

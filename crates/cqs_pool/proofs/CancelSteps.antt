@@ -9,33 +9,62 @@ use Rattle.cqs_pool_object.specs.declared.entries.PoolEntry.{PoolEntry}
 use Rattle.cqs_pool_object.specs.declared.entries.PoolEntry.TheVariants as entry
 use Rattle.cqs_pool_object.specs.PoolEntries.{IsLegal}
 use Rattle.cqs_rule.specs.declared.queue.tokens.Under.{Under}
-use Rattle.cqs_views.specs.declared.view.Facts.{Facts}
-use Rattle.cqs_views.specs.declared.view.Opening.{Opening}
-use Rattle.cqs_views.specs.declared.view.Sighting.TheVariants.{Cell}
-use Rattle.cqs_views.specs.declared.view.View.{View}
-use Rattle.cqs_views.specs.Called.{Called}
-use Rattle.cqs_views.specs.Exchanges.{HasCell}
-use Rattle.cqs_views.specs.Lists.{Has, IsPrefix, without}
-use Rattle.cqs_views.specs.Saw.{WasShown}
-use Rattle.cqs_views.proofs.Calls.{called-and}
+use Rattle.cqs_rule_laws.specs.declared.view.Facts.{Facts}
+use Rattle.cqs_rule_laws.specs.declared.view.Sighting.TheVariants.{Cell}
+use Rattle.cqs_rule_laws.specs.declared.view.View.{View}
+use Rattle.cqs_rule_laws.specs.declared.view.Opening.{Opening}
+use Rattle.cqs_rule_laws.specs.Called.{Called}
+use Rattle.cqs_rule_laws.specs.Causes.{cell_of}
+use Rattle.cqs_rule_laws.specs.Exchanges.{HasCell}
+use Rattle.cqs_rule_laws.specs.Saw.{WasShown}
+use Rattle.cqs_rule_laws.specs.Lists.{Has, without}
+use Rattle.cqs_rule_laws.proofs.Calls.{called-and}
+use Rattle.cqs_rule_laws.proofs.Causes.{Onward, once-later}
+use Rattle.cqs_rule_laws.proofs.Lists.{prefix-then}
+use Rattle.cqs_rule_laws.proofs.Rules.{call-rule, call-rule_own}
 use Rattle.cqs_cancel.specs.Unasked as unasked
 use Rattle.cqs_cancel.specs.Unasked.{Closes}
+use Rattle.cqs_cancel.proofs.Outs.{late-cell, late-ready, late-has, late-waits}
 use Rattle.cqs_cancel.specs.declared.cancelling.Left.TheVariants.{Gone, GoneOwing, Late}
 use Rattle.cqs_pool.specs.declared.answers.Placed.{Placed}
 use Rattle.cqs_pool.specs.declared.answers.Placed.TheVariants as placed
 use Rattle.cqs_pool.specs.declared.answers.Placed.TheVariants.{Sent, Left}
 use Rattle.cqs_pool.specs.declared.answers.PoolLeft.TheVariants.{Cancelled}
 use Rattle.cqs_pool.specs.Answers.{Ends, PassesOn, LeavesPass, most_passed_over}
-use Rattle.cqs_pool.specs.Calls.{IsReady, CallRule, Rests}
-use Rattle.cqs_pool.specs.Causes.{primitive_of, cell_of, CellWasOnce, CellHadOnce, CellHad}
+use Rattle.cqs_rule_laws.specs.CallRule.{IsReady}
+use Rattle.cqs_pool.specs.Calls.{CallRule, Rests}
+use Rattle.cqs_pool.specs.Causes.{primitive_of, CellWasOnce, CellHadOnce, CellHad}
 use Rattle.cqs_pool.specs.Entries.{placed_further, passed_further}
 use Rattle.cqs_pool.specs.Pool.{pool_object}
 use Rattle.cqs_pool.specs.Steps.{HasCancelled, HasEnded, PassedOn}
-use Rattle.cqs_pool.proofs.Counters.{prefix-then}
 use Rattle.cqs_pool.proofs.ResumeSteps.{ends-so, ends-called, further-names}
-use Rattle.cqs_pool.proofs.Rules.{call-rule, call-rule_own}
 
 module _ {T : Type 0} where
+  -- what was found once in a call was found in it still when the call has gone on, with its payload
+  had-later : (at : CoreState) (k : ℕ) (v u w : View PoolEntry T) (o : CellWasOnce at k v u) → Onward u w
+      → (once : CellWasOnce at k v w) × (once.payload ≡ o.payload)
+  had-later at k v u w o on = (
+    record {
+      word = o.word;
+      payload = o.payload;
+      cell = o.cell;
+      found = (
+        o.found.0,
+        o.found.1 ++ on.found.0,
+        on.found.1 ∙ (ap (λ l. l ++ on.found.0) o.found.2
+            ∙ (append_assoc v.facts.found _ on.found.0
+            ∙ ap (λ l. v.facts.found ++ l) (append_assoc o.found.0 (Cell k o.word ∷ o.found.1) on.found.0))),
+      );
+      was = record {
+        before = o.was.before;
+        seen = prefix-then o.was.before u.seen w.seen o.was.seen on.seen;
+        was = subst (λ (z : Opening). WasShown {S = T} primitive_of z (HasCell (cell_of k at o.payload)) o.was.before)
+            (sym on.opening) o.was.was;
+      };
+    },
+    refl,
+  )
+
   -- The waiter of the number k is out, and the pass is at this.
   record Out (at : Doing) (k : ℕ) (v u : View PoolEntry T) : Type 0 where
     called : Called pool_object v (entry.Leave v.number k ∷ []) [] u
@@ -118,36 +147,13 @@ module _ {T : Type 0} where
         ),
       )
 
-  -- what was found stays found while the call goes on
-  once-later : (at : CoreState) (k : ℕ) (v u w : View PoolEntry T) → CellWasOnce at k v u → IsPrefix u.seen w.seen
-      → IsPrefix u.facts.found w.facts.found → w.opening ≡ u.opening → CellWasOnce at k v w
-  once-later at k v u w o seen found opening = record {
-    word = o.word;
-    payload = o.payload;
-    cell = o.cell;
-    found = (
-      o.found.0,
-      o.found.1 ++ found.0,
-      found.1 ∙ (ap (λ l. l ++ found.0) o.found.2
-          ∙ (append_assoc v.facts.found _ found.0
-          ∙ ap (λ l. v.facts.found ++ l) (append_assoc o.found.0 (Cell k o.word ∷ o.found.1) found.0))),
-    );
-    was = record {
-      before = o.was.before;
-      seen = prefix-then o.was.before u.seen w.seen o.was.seen seen;
-      was = subst (λ (z : Opening). WasShown {S = T} primitive_of z (HasCell (cell_of k at o.payload)) o.was.before)
-          (sym opening)
-          o.was.was;
-    };
-  }
-
   pub gone : (k : ℕ) (v w : View PoolEntry T) → IsReady v.facts → Has v.number v.own → IsLegal w.opening.size w.seen
       → unasked.CancelsUnasked pool_object primitive_of k v Gone w → HasCancelled k v (Cancelled None) w
   gone k v w ready own legal b =
       let o = out-gone k v w b in (
         0,
         None,
-        call-rule_own v w (entry.Leave v.number k ∷ []) [] o.called (λ n. refl, tt) own legal,
+        call-rule_own pool_object v w (entry.Leave v.number k ∷ []) [] o.called (λ n. refl, tt) own legal,
         (
           o.waiter,
           (
@@ -165,7 +171,6 @@ module _ {T : Type 0} where
       → Has v.number v.own → IsLegal w.opening.size w.seen
       → unasked.CancelsUnasked pool_object primitive_of k v (GoneOwing payload) u
       → PassedOn payload u under w → HasCancelled k v (Cancelled under) w
-  unfolding once-later
   gone-owing k payload v u w under ready own legal b p =
       let placed : Placed = p.0 in
       let e : HasEnded most_passed_over None payload u placed w = p.2 in
@@ -178,14 +183,14 @@ module _ {T : Type 0} where
       (ends-so v u w most_passed_over None payload placed o.passed (o.further ∙ ready.further) refl e) in (
         payload,
         Some placed,
-        call-rule v w (entry.Leave v.number k ∷ []) (placed_further payload placed)
+        call-rule pool_object v w (entry.Leave v.number k ∷ []) (placed_further payload placed)
             (called-and pool_object v u w _ _ _ _ o.called on.0) (λ n. refl, tt) (further-names payload placed)
             own legal,
         (
-          once-later state.Waiter k v u w o.waiter on.1.seen on.1.found on.1.opening,
+          once-later primitive_of state.Waiter k v u w o.waiter on.1,
           (
             p.1,
-            (once-later state.Delegated k v u w out.1.0 on.1.seen on.1.found on.1.opening, out.1.1),
+            (let had = had-later state.Delegated k v u w out.1.0 on.1 in (had.0, had.1 ∙ out.1.1)),
             ends,
           ),
         ),
@@ -195,14 +200,14 @@ module _ {T : Type 0} where
   pub gone-rule : (k : ℕ) (v w : View PoolEntry T) → Has v.number v.own → IsLegal w.opening.size w.seen
       → unasked.CancelsUnasked pool_object primitive_of k v Gone w → CallRule v (entry.Leave v.number k ∷ []) [] w
   gone-rule k v w own legal b =
-      call-rule_own v w (entry.Leave v.number k ∷ []) [] (out-gone k v w b).called (λ n. refl, tt) own legal
+      call-rule_own pool_object v w (entry.Leave v.number k ∷ []) [] (out-gone k v w b).called (λ n. refl, tt) own legal
 
   pub owing-rule : (k payload : ℕ) (v u : View PoolEntry T) → Has v.number v.own → IsLegal u.opening.size u.seen
       → unasked.CancelsUnasked pool_object primitive_of k v (GoneOwing payload) u
       → CallRule v (entry.Leave v.number k ∷ []) [] u × (u.facts.doing ≡ doing.Owes)
   owing-rule k payload v u own legal b =
       let out = out-owing k payload v u b.0 in (
-        call-rule_own v u (entry.Leave v.number k ∷ []) [] out.0.called (λ n. refl, tt) own legal,
+        call-rule_own pool_object v u (entry.Leave v.number k ∷ []) [] out.0.called (λ n. refl, tt) own legal,
         out.0.doing_is,
       )
 
@@ -217,34 +222,21 @@ module _ {T : Type 0} where
   pub late : (k e j : ℕ) (v w : View PoolEntry T) → IsReady v.facts → Has v.number v.own
       → IsLegal w.opening.size w.seen → unasked.CancelsUnasked pool_object primitive_of k v (Late e) w
       → j ≡ k → CameTooLate k e j v w
-  late k e j v w ready own legal l number =
-      let is = l.facts_are in (
-        0,
-        None,
-        call-rule_own v w (entry.Late v.number k e ∷ []) _ l.called (λ n. refl, tt) own legal,
-        (
-          refl,
-          number,
-          (
-            record {
-              word = l.word;
-              payload = e;
-              cell = l.cell;
-              found = (_, ap (λ (f : Facts). f.found) is);
-              was = l.was;
-            },
-            refl,
-          ),
-          record {
-            ready = record {
-              idle = ap (λ (f : Facts). f.doing) is;
-              further = ap (λ (f : Facts). f.has.further) is ∙ ready.further;
-            };
-            elements_are = ap (λ (f : Facts). f.has.slots) is;
-            waits_are = ap (λ (f : Facts). f.waits) is;
-          },
-        ),
-      )
+  late k e j v w ready own legal l number = (
+    0,
+    None,
+    call-rule_own pool_object v w (entry.Late v.number k e ∷ []) _ l.called (λ n. refl, tt) own legal,
+    (
+      refl,
+      number,
+      late-cell pool_object primitive_of k e v w l,
+      record {
+        ready = late-ready pool_object primitive_of k e v w l ready;
+        elements_are = ap (λ h. h.slots) (late-has pool_object primitive_of k e v w l);
+        waits_are = late-waits pool_object primitive_of k e v w l;
+      },
+    ),
+  )
 
   -- what the call that went on with an element leaves
   left-passed : (k e : ℕ) (v w : View PoolEntry T) (under : Option Under) (passed : Option Placed)

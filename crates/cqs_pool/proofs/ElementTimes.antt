@@ -5,7 +5,7 @@ use Rattle.std.proofs.lemmas.Bool.{cases_eq}
 use Rattle.cqs_core.proofs.Counts.{bit}
 use Rattle.cqs_pool_object.specs.PoolObject.{times}
 use Rattle.cqs_pool_object.proofs.PoolCounts.{times-cons}
-use Rattle.cqs_views.specs.Lists.{Has, without}
+use Rattle.cqs_rule_laws.specs.Lists.{Has, without}
 
 -- a number that is in a list, and one that isn't
 pub times-has : (e : ℕ) (xs : List ℕ) → 0 < times e xs → Has e xs

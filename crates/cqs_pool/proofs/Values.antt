@@ -1,10 +1,10 @@
 -- The value that a put hands in.
 use Rattle.std.proofs.Common.{◌≡◌, ◌∙◌, ℕ, ◌<◌, Bool, true, false, ◌++◌, ap, Some, arith}
 use Rattle.cqs_pool_object.specs.declared.entries.PoolEntry.{PoolEntry}
-use Rattle.cqs_views.specs.declared.view.View.{View}
-use Rattle.cqs_views.specs.Lists.{IsPrefix}
-use Rattle.cqs_views.specs.Slots.{laid_in, LaysNone}
-use Rattle.cqs_views.specs.SlotSteps.{LaysValue, HandedIn}
+use Rattle.cqs_rule_laws.specs.declared.view.View.{View}
+use Rattle.cqs_rule_laws.specs.Lists.{IsPrefix}
+use Rattle.cqs_rule_laws.specs.Slots.{laid_in, LaysNone}
+use Rattle.cqs_rule_laws.specs.SlotSteps.{LaysValue, HandedIn}
 use Rattle.cqs_pool.specs.PoolSize.{slots_when}
 use Rattle.cqs_pool.specs.Values.{IsFull, GaveValue}
 

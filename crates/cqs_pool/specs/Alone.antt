@@ -8,7 +8,7 @@ use Rattle.cqs_pool_object.specs.declared.entries.PoolEntry.TheVariants as entry
 use Rattle.cqs_pool_object.specs.PoolObject as plain
 use Rattle.cqs_pool_object.specs.PoolObject.{IsGiven}
 use Rattle.cqs_pool_object.specs.PoolOrder.{IsByOne, IsFirstOnWay}
-use Rattle.cqs_views.specs.declared.view.View.{View}
+use Rattle.cqs_rule_laws.specs.declared.view.View.{View}
 use Rattle.cqs_rule.specs.Waits.{place_of}
 use Rattle.cqs_pool.specs.declared.answers.Placed.{Placed}
 use Rattle.cqs_pool.specs.declared.answers.Placed.TheVariants.{Sent, Left, Under}

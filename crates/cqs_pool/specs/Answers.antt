@@ -1,15 +1,15 @@
 -- What each call answers, and why.
-use Rattle.std.specs.Prelude.{◌≡◌, ◌⊎◌, ℕ, ◌<◌, ◌≤◌, List, [], ◌∷◌, ◌++◌, Option, Some, None}
+use Rattle.std.specs.Prelude.{◌≡◌, ◌⊎◌, ℕ, List, [], ◌∷◌, ◌++◌, Option, Some, None}
 use Rattle.cqs_core.specs.declared.cells.CoreState.TheVariants as state
 use Rattle.cqs_pool_object.specs.declared.entries.PoolEntry.{PoolEntry}
 use Rattle.cqs_pool_object.specs.declared.entries.PoolEntry.TheVariants as entry
 use Rattle.cqs_rule.specs.declared.queue.tokens.Under as token
 use Rattle.cqs_rule.specs.declared.queue.tokens.Wait.{Wait}
-use Rattle.cqs_views.specs.declared.view.Facts.{Facts}
-use Rattle.cqs_views.specs.declared.view.Sighting.TheVariants.{Word}
-use Rattle.cqs_views.specs.declared.view.View.{View}
-use Rattle.cqs_views.specs.Layout.{suspends_place}
-use Rattle.cqs_views.specs.Lists.{Has, without}
+use Rattle.cqs_rule_laws.specs.declared.view.Facts.{Facts}
+use Rattle.cqs_rule_laws.specs.declared.view.View.{View}
+use Rattle.cqs_rule_laws.specs.Causes as laws
+use Rattle.cqs_rule_laws.specs.Causes.{PassedOver}
+use Rattle.cqs_rule_laws.specs.Lists.{Has, without}
 use Rattle.cqs_rule.specs.Owed.{HasUnder, under_payload}
 use Rattle.cqs_rule.specs.Waits.{place_of, HasWait}
 use Rattle.cqs_pool.specs.declared.answers.Placed.{Placed}
@@ -21,7 +21,7 @@ use Rattle.cqs_pool.specs.declared.answers.PoolPolled.TheVariants.{Granted, Pend
 use Rattle.cqs_pool.specs.declared.answers.Taking.{Taking}
 use Rattle.cqs_pool.specs.declared.answers.Taking.TheVariants.{Took, Later}
 use Rattle.cqs_pool.specs.Calls.{Rests}
-use Rattle.cqs_pool.specs.Causes.{Counted, CellWas, CellHad, CellWasOnce, CellHadOnce, PassedOver}
+use Rattle.cqs_pool.specs.Causes.{drawn_in, CellWas, CellHad, CellWasOnce, CellHadOnce}
 use Rattle.cqs_pool.specs.Elements.{number_of, wait_of}
 use Rattle.cqs_pool.specs.Owed.{owed_after}
 
@@ -33,25 +33,13 @@ most_passed_over = 64
 abbrev pub IsInHand : ℕ → Facts → Type 0
 IsInHand e f = Has e f.has.slots
 
--- a pass at these facts that loaded the suspend counter as n, and did nothing else
-abbrev pub facts_refused : ℕ → Facts → Facts
-facts_refused n f = record f { found = f.found ++ Word suspends_place n ∷ [] }
-
 module _ {T : Type 0} where
-  -- A take was refused: it loaded the suspend counter, and this was at the limit or above. So
-  -- many numbers had been drawn in all that the pass has seen now. Nothing else was touched.
-  pub record IsWorn (v w : View PoolEntry T) : Type 0 where
-    pub loaded : ℕ
-    pub worn : v.limit ≤ loaded
-    pub counted : Counted v loaded w.seen w
-    pub facts_are : w.facts ≡ facts_refused loaded v.facts
+  -- A take was refused, as the limit was reached; or it wasn't.
+  abbrev pub IsWorn : View PoolEntry T → View PoolEntry T → Type 0
+  IsWorn v w = laws.IsWorn drawn_in v w
 
-  -- one that wasn't had loaded it below the limit
-  pub record IsBelow (v w : View PoolEntry T) : Type 0 where
-    pub loaded : ℕ
-    pub before : List PoolEntry
-    pub below : loaded < v.limit
-    pub counted : Counted v loaded before w
+  abbrev pub IsBelow : View PoolEntry T → View PoolEntry T → Type 0
+  IsBelow v w = laws.IsBelow drawn_in v w
 
   -- The cell of the number was found with an element, which the caller has; or it was empty, and
   -- the caller waits there.

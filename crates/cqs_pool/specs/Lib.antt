@@ -1,5 +1,7 @@
 pub mod PoolSize
 pub mod Pool
+pub mod PoolUnrefused
+pub mod PoolInHand
 pub mod PoolIsClient
 pub mod Elements
 pub mod Owed

@@ -10,12 +10,12 @@ use Rattle.cqs_pool_object.specs.PoolOrder.{IsInOrder}
 use Rattle.cqs_pool_object.specs.PoolNames.{entry_names}
 use Rattle.cqs_pool_object.specs.PoolShown.{PoolShape, IsPool}
 use Rattle.cqs_pool_object.specs.PoolSteps.{step_entries}
-use Rattle.cqs_views.specs.declared.config.CancelMode.TheVariants.{Smart}
-use Rattle.cqs_views.specs.declared.view.Has.{Has}
-use Rattle.cqs_views.specs.Hidden.{Hidden, Gains}
-use Rattle.cqs_views.specs.Lists.{IsDistinct, Has as In}
-use Rattle.cqs_views.specs.Manner.{Manner, passes_on, elements}
-use Rattle.cqs_views.specs.Object.{Object, Primitive}
+use Rattle.cqs_rule_laws.specs.declared.config.CancelMode.TheVariants.{Smart}
+use Rattle.cqs_rule_laws.specs.declared.view.Has.{Has}
+use Rattle.cqs_rule_laws.specs.Hidden.{Hidden, Gains}
+use Rattle.cqs_rule_laws.specs.Lists.{IsDistinct, Has as In}
+use Rattle.cqs_rule_laws.specs.Manner.{Manner, passes_on, elements}
+use Rattle.cqs_rule_laws.specs.Object.{Object, Primitive}
 
 -- what each pass brings, where it resumes, and what it has in hand
 abbrev pub loads_of : List Has → List ℕ

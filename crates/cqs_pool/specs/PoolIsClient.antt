@@ -1,27 +1,21 @@
 -- The pool is a client: each step of the queue that suits it keeps the pool that its table shows,
 -- by the law of the pool. This file is a proof: nothing of it has to be read to know what is
 -- promised, and nothing in it is taken on trust.
-use Rattle.std.proofs.Common.{◌≡◌, ◌≢◌, ◌⊎◌, inl, inr, ⊎_elim, ℕ, zero, suc, ◌+◌, ◌-◌, ◌<◌, ◌≤◌, ◌==◌, true, false, List, [], ◌∷◌, ◌++◌, replicate, refl, ap, sym, ◌∙◌, subst, arith, Option, Some, None, slice_get, lt-ltb, ne_eqb, eq-eqb, length, length-set, get_or, set, if◌then◌else◌}
+use Rattle.std.proofs.Common.{◌≡◌, ◌≢◌, ◌⊎◌, inl, inr, ⊎_elim, ℕ, zero, suc, ◌+◌, ◌-◌, ◌<◌, ◌≤◌, List, [], ◌∷◌, ◌++◌, replicate, refl, ap, sym, ◌∙◌, subst, arith, Option, Some, slice_get, lt-ltb, ne_eqb, length, length-set, get_or, set, if◌then◌else◌}
 use Rattle.std.specs.List.{sum_by}
-use Rattle.std.proofs.lemmas.Bool.{cases_Bool, cases_eq, cases_lt}
-use Rattle.std.proofs.lemmas.Option.{slice_get-map, get_or_from_slice_get}
-use Rattle.std.proofs.lemmas.List.{map-set, length_push}
+use Rattle.std.proofs.lemmas.Option.{get_or_from_slice_get}
 use Rattle.std.proofs.lemmas.List.Sums.{get_or-le-sum_by, sum_by-set}
 use Rattle.std.specs.Prelude.{slice_set}
 use mathlib.Core.Logic.{dite}
 use native.Mathlib.Decide.{ℕ_discrete}
-use Rattle.std.specs.Option.{option_map}
 use Rattle.cqs_core.specs.declared.cells.CoreCell.{CoreCell}
-use Rattle.cqs_core.specs.declared.cells.CoreState.{CoreState}
 use Rattle.cqs_core.specs.declared.cells.CoreState.TheVariants as state
 use Rattle.cqs_core.specs.declared.doings.Doing.TheVariants as doing
 use Rattle.cqs_core.specs.Numbered.{IsIn, EachAt}
 use Rattle.cqs_core.specs.QueueOpening.{value_cell}
-use Rattle.cqs_core.specs.QueueState.{Queue, fresh_cell}
-use Rattle.cqs_core.specs.QueueSteps.{QueueStep, draws, enters, reaches, begins, puts, installs, takes, serves, leaves, delegates, passes_over, ends_refused, ends_missed, starts_leaving, leaves_line, leaves_at_once, settles, settles_owing, refuses, refuses_value, looks, pends, grants, late, row_of, StepRow, at_counter, at_cell, Gain, nothing, its_own, a_debt, Cost, no_cost, one_owed, one_element, IsOpenStep, payload_told, CellRow, IsOpenRow, row_after, cell_after, state_made, Counter, to_suspend, to_resume, counter_of, after_count}
-use Rattle.cqs_core.proofs.Counts.{bit}
+use Rattle.cqs_core.specs.QueueSteps.{QueueStep, draws, enters, reaches, begins, puts, installs, takes, serves, leaves, delegates, passes_over, ends_refused, ends_missed, starts_leaving, leaves_line, leaves_at_once, settles, settles_owing, refuses, refuses_value, looks, pends, grants, late, row_of, StepRow, at_counter, at_cell, Gain, nothing, its_own, a_debt, Cost, no_cost, one_owed, one_element, IsOpenStep, payload_told}
 use Rattle.cqs_core.proofs.EachAtLemmas.{EachAt-write}
-use Rattle.cqs_core.proofs.Places.{get-below, get-set_else, set-same, get-append_below, get-push_at}
+use Rattle.cqs_core.proofs.Places.{get-below, get-set_else}
 use Rattle.cqs_core.proofs.QueueOpens.{get-replicate}
 use Rattle.cqs_pool_object.specs.declared.entries.PoolEntry.{PoolEntry}
 use Rattle.cqs_pool_object.specs.PoolEntries.{less, object_after}
@@ -30,23 +24,24 @@ use Rattle.cqs_pool_object.specs.PoolNames.{entry_names}
 use Rattle.cqs_pool_object.specs.PoolObject.{times}
 use Rattle.cqs_pool_object.specs.PoolOrder.{IsInOrder}
 use Rattle.cqs_pool_object.specs.PoolShown.{PoolShape, IsPool, held_times}
-use Rattle.cqs_pool_object.specs.PoolSteps.{IsPoolStep, IsPaid, IsPayload, step_entries, hold_of, loads_after, holds_after, loads_paid, loads_gained, holds_paid, holds_gained, shape_after}
+use Rattle.cqs_pool_object.specs.PoolSteps.{IsPoolStep, IsPaid, IsPayload, step_entries, hold_of, shape_after}
 use Rattle.cqs_pool_object.proofs.PoolConserved.{conserved-after}
-use Rattle.cqs_pool_object.proofs.PoolCounts.{times-cons}
 use Rattle.cqs_pool_object.proofs.PoolOpens.{opened-pool, handed-pool, numbers-left}
 use Rattle.cqs_pool_object.proofs.PoolOrder.{step-in_order, opened-in_order}
 use Rattle.cqs_pool_object.proofs.PoolSteps.{step-pool}
-use Rattle.cqs_views.specs.declared.view.Has.{Has}
-use Rattle.cqs_views.specs.Client as client
-use Rattle.cqs_views.specs.Client.{IsClient, IsBegun, begun_by}
-use Rattle.cqs_views.specs.Hidden.{Hidden, hidden_after, has_after, has_gained, has_paid, has_both, has_none, hands_over}
-use Rattle.cqs_views.specs.Lists as lists
-use Rattle.cqs_views.specs.Lists.{NamesOnly}
-use Rattle.cqs_views.specs.Manner.{Suits}
-use Rattle.cqs_views.specs.Opened.{first_hidden, first_payload}
-use Rattle.cqs_views.specs.Views.{first_has}
-use Rattle.cqs_views.proofs.Lists.{has_left, has_right, without_has}
-use Rattle.cqs_pool.specs.Pool.{loads_of, holds_of, pool_shown, ShowsPool, in_hand, HasEach, pool_manner, pool_object, pool_primitive}
+use Rattle.cqs_rule_laws.specs.declared.view.Has.{Has}
+use Rattle.cqs_rule_laws.specs.Client as client
+use Rattle.cqs_rule_laws.specs.Client.{IsClient, IsBegun, begun_by}
+use Rattle.cqs_rule_laws.specs.Hidden.{Hidden, hidden_after, has_after, has_gained, has_paid, has_both, has_none, hands_over}
+use Rattle.cqs_rule_laws.specs.Lists as lists
+use Rattle.cqs_rule_laws.specs.Lists.{NamesOnly}
+use Rattle.cqs_rule_laws.specs.Manner.{Suits}
+use Rattle.cqs_rule_laws.specs.Opened.{first_hidden, first_payload}
+use Rattle.cqs_rule_laws.specs.Views.{first_has}
+use Rattle.cqs_rule_laws.proofs.Lists.{has_left, has_right, without_has}
+use Rattle.cqs_pool.specs.Pool.{loads_of, holds_of, pool_shown, ShowsPool, in_hand, pool_manner, pool_object, pool_primitive}
+use Rattle.cqs_pool.specs.PoolUnrefused.{MakesNone, unrefused-row}
+use Rattle.cqs_pool.specs.PoolInHand.{elements-held, has-in, has-times, hold-at, hold-is, hold-kept, hold-set, holds-after, load-is, load-kept, loads-after, once-held}
 
 silent-step : (s : QueueStep) (p k payload : ℕ)
     → NamesOnly entry_names p (step_entries s p k payload)
@@ -73,11 +68,6 @@ silent-step refuses_value p k payload n apart = refl
 silent-step (looks pends) p k payload n apart = rw (ne_eqb p n (λ q. apart (sym q))) refl
 silent-step (looks grants) p k payload n apart = rw (ne_eqb p n (λ q. apart (sym q))) refl
 silent-step (looks late) p k payload n apart = rw (ne_eqb p n (λ q. apart (sym q))) refl
-
--- the step refuses no cell
-abbrev MakesNone : StepRow → Type 0
-MakesNone (at_counter row) = Unit {0}
-MakesNone (at_cell row) = row.makes ≢ Some state.Refused
 
 none-made : (t : QueueStep) → Suits pool_manner t → MakesNone (row_of t)
 none-made draws suits = tt
@@ -128,205 +118,6 @@ suiting refuses suits = suits
 suiting refuses_value suits = suits
 suiting (looks e) suits = tt
 
--- what the pass brings, and what it has in hand, that has this
-load-at : (l : List Has) (p : ℕ) (has : Has) → slice_get l p ≡ Some has
-    → slice_get (loads_of l) p ≡ Some has.payload
-load-at l p has there =
-    slice_get-map (λ (h : Has). h.payload) l p ∙ ap (option_map (λ (h : Has). h.payload)) there
-
-load-is : (l : List Has) (p : ℕ) (has : Has) → slice_get l p ≡ Some has
-    → get_or (loads_of l) p 0 ≡ has.payload
-load-is l p has there =
-    get_or_from_slice_get (loads_of l) p has.payload 0 (load-at l p has there)
-
-pub hold-at : (l : List Has) (p : ℕ) (has : Has) → slice_get l p ≡ Some has
-    → slice_get (holds_of l) p ≡ Some has.slots
-hold-at l p has there =
-    slice_get-map (λ (h : Has). h.slots) l p ∙ ap (option_map (λ (h : Has). h.slots)) there
-
-pub hold-is : (l : List Has) (p : ℕ) (has : Has) → slice_get l p ≡ Some has
-    → hold_of (holds_of l) p ≡ has.slots
-hold-is l p has there = get_or_from_slice_get (holds_of l) p has.slots [] (hold-at l p has there)
-
--- what all bring and have in hand where the pass has this now
-load-set : (l : List Has) (p : ℕ) (h : Has) (n : ℕ) → h.payload ≡ n
-    → set (loads_of l) p n ≡ loads_of (slice_set l p h)
-load-set l p h n is =
-    sym (map-set (λ (x : Has). x.payload) l p h ∙ ap (λ m. set (loads_of l) p m) is)
-
-load-kept : (l : List Has) (p : ℕ) (has h : Has) → slice_get l p ≡ Some has
-    → h.payload ≡ has.payload
-    → loads_of l ≡ loads_of (slice_set l p h)
-load-kept l p has h there same =
-    sym (set-same (loads_of l) p has.payload (load-at l p has there))
-    ∙ load-set l p h has.payload same
-
-hold-set : (l : List Has) (p : ℕ) (h : Has) (slots : List ℕ) → h.slots ≡ slots
-    → set (holds_of l) p slots ≡ holds_of (slice_set l p h)
-hold-set l p h slots is =
-    sym (map-set (λ (x : Has). x.slots) l p h ∙ ap (λ m. set (holds_of l) p m) is)
-
-hold-kept : (l : List Has) (p : ℕ) (has h : Has) → slice_get l p ≡ Some has → h.slots ≡ has.slots
-    → holds_of l ≡ holds_of (slice_set l p h)
-hold-kept l p has h there same =
-    sym (set-same (holds_of l) p has.slots (hold-at l p has there))
-    ∙ hold-set l p h has.slots same
-
--- where an element is in a list once at most, the list without it is the same in both words
-none-without : (e : ℕ) (xs : List ℕ) → times e xs ≡ 0 → lists.without e xs ≡ xs
-none-without e [] none = refl
-none-without e (x ∷ xs) none =
-    go (cases_Bool (x == e)) (λ rest. none-without e xs rest) (times-cons e x xs)
-  where
-    go : (x == e ≡ true) ⊎ (x == e ≡ false) → (times e xs ≡ 0 → lists.without e xs ≡ xs)
-        → times e (x ∷ xs) ≡ bit (x == e) + times e xs → lists.without e (x ∷ xs) ≡ x ∷ xs
-    go (inl same) rests first = let one : bit (x == e) ≡ 1 = ap bit same in absurd (omega arith)
-    go (inr other) rests first = rw other (ap (λ ys. x ∷ ys) (rests (omega arith)))
-
-once-without : (e : ℕ) (xs : List ℕ) → times e xs ≤ 1 → lists.without e xs ≡ less e xs
-once-without e [] once = refl
-once-without e (x ∷ xs) once =
-    go (cases_eq x e) (λ rest. once-without e xs rest) (times-cons e x xs)
-  where
-    go : (x ≡ e) ⊎ (x ≢ e) → (times e xs ≤ 1 → lists.without e xs ≡ less e xs)
-        → times e (x ∷ xs) ≡ bit (x == e) + times e xs
-        → lists.without e (x ∷ xs) ≡ less e (x ∷ xs)
-    go (inl same) rests first =
-        let one : bit (x == e) ≡ 1 = ap bit (eq-eqb x e same) in
-        rw (eq-eqb x e same, eq-eqb e x (sym same)) (none-without e xs (omega arith))
-    go (inr other) rests first =
-        rw (ne_eqb x e other, ne_eqb e x (λ q. other (sym q)))
-        (ap (λ ys. x ∷ ys) (rests (omega arith)))
-
-pub has-in : (e : ℕ) (xs : List ℕ) → lists.Has e xs → IsIn e xs
-has-in e [] has = absurd has
-has-in e (x ∷ xs) (inl is) = record { place = 0; there = ap Some (sym is) }
-has-in e (x ∷ xs) (inr later) =
-    let rest : IsIn e xs = has-in e xs later in
-    record { place = suc rest.place; there = rest.there }
-
--- no pass has an element in hand twice
-pub once-held : (s : PoolShape) (p e : ℕ) → IsPool s → p < length s.holds
-    → times e (hold_of s.holds p) ≤ 1
-once-held s p e is there =
-    let kept = conserved-after s.size s.history is.legal in
-    let held = is.shows.held e in
-    let own = get_or-le-sum_by (times e) s.holds p [] there in
-    go (times e (object_after s.size s.history).held) (kept.each e) (kept.others e) held own
-  where
-    go : (n : ℕ)
-        → (e < s.size → times e (object_after s.size s.history).way + n ≡ 1)
-        → (s.size ≤ e → times e (object_after s.size s.history).way + n ≡ 0)
-        → n ≡ held_times e s.queue s.payloads s.holds
-        → times e (get_or s.holds p []) ≤ sum_by (times e) s.holds
-        → times e (hold_of s.holds p) ≤ 1
-    go n each others held own = grind arith
-
--- nor one that is none of the pool's
-none-held : (s : PoolShape) (p e : ℕ) → IsPool s → p < length s.holds → s.size ≤ e
-    → times e (hold_of s.holds p) ≡ 0
-none-held s p e is there above =
-    let kept = conserved-after s.size s.history is.legal in
-    let held = is.shows.held e in
-    let own = get_or-le-sum_by (times e) s.holds p [] there in
-    let none = kept.others e above in
-    omega arith
-
-has-times : (e : ℕ) (xs : List ℕ) → lists.Has e xs → 0 < times e xs
-has-times e [] has = absurd has
-has-times e (x ∷ xs) (inl same) =
-    let first = times-cons e x xs in
-    let one : bit (x == e) ≡ 1 = ap bit (eq-eqb x e (sym same)) in
-    omega arith
-has-times e (x ∷ xs) (inr later) =
-    let first = times-cons e x xs in
-    let some = has-times e xs later in
-    omega arith
-
--- where no element is twice in a list, its elements are distinct
-all-distinct : (xs : List ℕ) → ((e : ℕ) → times e xs ≤ 1) → lists.IsDistinct xs
-all-distinct [] once = tt
-all-distinct (x ∷ xs) once = (
-  λ later.
-      let first = times-cons x x xs in
-      let one : bit (x == x) ≡ 1 = ap bit (eq-eqb x x refl) in
-      let some = has-times x xs later in
-      let at = once x in
-      absurd (omega arith),
-  all-distinct xs (λ e.
-      let first = times-cons e x xs in
-      let at = once e in
-      omega arith),
-)
-
--- an element that a pass has in hand is one of the pool's, and is there once
-elements-held : (size : ℕ) (c : Hidden) (log : List PoolEntry) (p : ℕ) (has : Has)
-    → ShowsPool size c log → slice_get c.has p ≡ Some has → HasEach size has.slots
-elements-held size c log p has shows there = record {
-  once = all-distinct has.slots once;
-  low = λ e mine. low e (has-times e has.slots mine) (cases_lt e size);
-}
-  where
-    s : PoolShape
-    s = pool_shown size c log
-
-    at : p < length s.holds
-    at = get-below (holds_of c.has) p has.slots (hold-at c.has p has there)
-
-    once : (e : ℕ) → times e has.slots ≤ 1
-    once e = subst (λ xs. times e xs ≤ 1) (hold-is c.has p has there)
-        (once-held s p e shows.is_pool at)
-
-    low : (e : ℕ) → 0 < times e has.slots → (e < size) ⊎ (size ≤ e) → e < size
-    low e some (inl below) = below
-    low e some (inr above) =
-        let none = none-held s p e shows.is_pool at above in
-        let same : times e (hold_of s.holds p) ≡ times e has.slots =
-        ap (times e) (hold-is c.has p has there) in
-        absurd (omega arith)
-
--- what all bring and have in hand after a step of this row
-loads-after : (row : StepRow) (l : List Has) (p payload : ℕ) (has : Has) → slice_get l p ≡ Some has
-    → loads_after row (loads_of l) p payload
-    ≡ loads_of (slice_set l p (has_after in_hand row payload has))
-loads-after (at_counter row) l p payload has there = paid row.cost
-  where
-    paid : (cost : Cost) → loads_paid cost (loads_of l) p payload
-        ≡ loads_of (slice_set l p (has_paid cost payload has))
-    paid no_cost = load-kept l p has has there refl
-    paid one_owed = load-kept l p has (has_paid one_owed payload has) there refl
-    paid one_element = load-set l p (has_paid one_element payload has) payload refl
-loads-after (at_cell row) l p payload has there = gained row.gain
-  where
-    gained : (gain : Gain) → loads_gained gain (loads_of l) p payload
-        ≡ loads_of (slice_set l p (has_gained in_hand gain payload has))
-    gained nothing = load-kept l p has has there refl
-    gained its_own = load-kept l p has (has_gained in_hand its_own payload has) there refl
-    gained a_debt = load-set l p (has_gained in_hand a_debt payload has) payload refl
-
-holds-after : (row : StepRow) (l : List Has) (p payload : ℕ) (has : Has) → slice_get l p ≡ Some has
-    → times payload has.slots ≤ 1
-    → holds_after row (holds_of l) p payload
-    ≡ holds_of (slice_set l p (has_after in_hand row payload has))
-holds-after (at_counter row) l p payload has there once = paid row.cost
-  where
-    paid : (cost : Cost) → holds_paid cost (holds_of l) p payload
-        ≡ holds_of (slice_set l p (has_paid cost payload has))
-    paid no_cost = hold-kept l p has has there refl
-    paid one_owed = hold-kept l p has (has_paid one_owed payload has) there refl
-    paid one_element =
-        hold-set l p (has_paid one_element payload has) (less payload (hold_of (holds_of l) p))
-        (once-without payload has.slots once ∙ ap (less payload) (sym (hold-is l p has there)))
-holds-after (at_cell row) l p payload has there once = gained row.gain
-  where
-    gained : (gain : Gain) → holds_gained gain (holds_of l) p payload
-        ≡ holds_of (slice_set l p (has_gained in_hand gain payload has))
-    gained nothing = hold-kept l p has has there refl
-    gained its_own =
-        hold-set l p (has_gained in_hand its_own payload has) (payload ∷ hold_of (holds_of l) p)
-        (ap (λ xs. payload ∷ xs) (sym (hold-is l p has there)))
-    gained a_debt = hold-kept l p has (has_gained in_hand a_debt payload has) there refl
-
 -- the payload that the rule tells is the pool's
 paid-so : (row : StepRow) (size : ℕ) (c : Hidden) (log : List PoolEntry) (p k payload : ℕ)
     (has : Has) → slice_get c.has p ≡ Some has
@@ -374,74 +165,6 @@ uncounted-after row l p payload has there none =
     kept : (row : StepRow) → has.held ≡ 0 → (has_after in_hand row payload has).held ≡ 0
     kept (at_counter row) is = paid row.cost is
     kept (at_cell row) is = gained row.gain is
-
--- no cell is refused
-abbrev Unrefused : List CoreCell → Type 0
-Unrefused cells = EachAt (λ k (cell : CoreCell). cell.state ≢ state.Refused) cells
-
-unrefused-set : (cells : List CoreCell) (k : ℕ) (found new : CoreCell)
-    → slice_get cells k ≡ Some found → new.state ≢ state.Refused
-    → Unrefused cells → Unrefused (set cells k new)
-unrefused-set cells k found new there not all =
-    EachAt-write (λ j (c : CoreCell). c.state ≢ state.Refused)
-    (λ j (c : CoreCell). c.state ≢ state.Refused) cells k found new there not
-    (λ j x got other is. is) all
-
-unrefused-push : (cells : List CoreCell) (new : CoreCell) → new.state ≢ state.Refused
-    → Unrefused cells → Unrefused (cells ++ new ∷ [])
-unrefused-push cells new not all = record { at = λ j x got. go j x got (cases_lt j (length cells)) }
-  where
-    go : (j : ℕ) (x : CoreCell) → slice_get (cells ++ new ∷ []) j ≡ Some x
-        → (j < length cells) ⊎ (length cells ≤ j) → x.state ≢ state.Refused
-    go j x got (inl below) = all.at j x (sym (get-append_below cells (new ∷ []) j below) ∙ got)
-    go j x got (inr past) =
-        let within : j < length (cells ++ new ∷ []) = get-below (cells ++ new ∷ []) j x got in
-        let last : j ≡ length cells = omega (arith, length_push cells new) in
-        let pushed : slice_get (cells ++ new ∷ []) j ≡ Some new = get-push_at cells new j last in
-        let is : new ≡ x = cc in
-        subst (λ (c : CoreCell). c.state ≢ state.Refused) is not
-
--- a step of a row makes a cell that is refused only where it names that, or finds it
-unrefused-made : (makes : Option CoreState) (found : CoreState) → found ≢ state.Refused
-    → makes ≢ Some state.Refused → state_made makes found ≢ state.Refused
-unrefused-made (Some s) found not other = λ is. other (ap Some is)
-unrefused-made None found not other = not
-
-unrefused-cell : (row : CellRow) (q : Queue) (p k : ℕ) (found : Option CoreCell)
-    → row.makes ≢ Some state.Refused → IsOpenRow q (at_cell row) p k found
-    → Unrefused q.cells → Unrefused (row_after (at_cell row) q p k found).cells
-unrefused-cell row q p k (Some found) other opens all =
-    unrefused-set q.cells k found (cell_after row found) opens.0.finds
-    (unrefused-made row.makes found.state (all.at k found opens.0.finds) other) all
-unrefused-cell row q p k None other opens all = absurd opens
-
-unrefused-counted : (counter : Counter) (q : Queue) (p k : ℕ) (found : Option CoreCell)
-    → k ≡ counter_of counter q → slice_get q.cells k ≡ found
-    → Unrefused q.cells → Unrefused (after_count counter q p k found).cells
-unrefused-counted to_suspend q p k (Some found) is there all =
-    unrefused-set q.cells k found
-    (record { state = found.state; owner = Some p; collected = found.collected }) there
-    (all.at k found there) all
-unrefused-counted to_suspend q p k None is there all =
-    unrefused-push q.cells (record { state = state.Empty; owner = Some p; collected = false })
-    (λ e. empty-not e) all
-  where
-    empty-not : state.Empty ≡ state.Refused → ⊥
-    empty-not e = absurd (cc)
-unrefused-counted to_resume q p k (Some found) is there all = all
-unrefused-counted to_resume q p k None is there all =
-    unrefused-push q.cells fresh_cell (λ e. empty-not e) all
-  where
-    empty-not : state.Empty ≡ state.Refused → ⊥
-    empty-not e = absurd (cc)
-
-unrefused-row : (row : StepRow) (q : Queue) (p k : ℕ) (found : Option CoreCell)
-    → MakesNone row → IsOpenRow q row p k found
-    → Unrefused q.cells → Unrefused (row_after row q p k found).cells
-unrefused-row (at_counter row) q p k found none opens all =
-    unrefused-counted row.counter q p k found opens.1 opens.2 all
-unrefused-row (at_cell row) q p k found none opens all =
-    unrefused-cell row q p k found none opens all
 
 -- each step of the queue that suits a pool keeps it
 steps-pool : (size : ℕ) (c : Hidden) (t : QueueStep) (p k : ℕ) (found : Option CoreCell)

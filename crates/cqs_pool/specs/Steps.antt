@@ -1,7 +1,7 @@
 -- The parts of the calls: what a resumption means for the element that it brings.
 use Rattle.std.specs.Prelude.{◌≡◌, ℕ, ◌<◌, Option, None}
 use Rattle.cqs_pool_object.specs.declared.entries.PoolEntry.{PoolEntry}
-use Rattle.cqs_views.specs.declared.view.View.{View}
+use Rattle.cqs_rule_laws.specs.declared.view.View.{View}
 use Rattle.cqs_rule.specs.Owed.{under_reached}
 use Rattle.cqs_rule.specs.declared.queue.tokens.Under as token
 use Rattle.cqs_resume.specs.declared.resumed.Resumed as resume

@@ -1,8 +1,8 @@
 -- The value slots of the elements: each element that carries a value has its own.
 use Rattle.std.specs.Prelude.{◌≡◌, ℕ, Bool, true, false, Some}
-use Rattle.cqs_views.specs.declared.view.View.{View}
-use Rattle.cqs_views.specs.Slots.{laid_in}
-use Rattle.cqs_views.specs.SlotSteps.{LaysValue, WasHandedIn}
+use Rattle.cqs_rule_laws.specs.declared.view.View.{View}
+use Rattle.cqs_rule_laws.specs.Slots.{laid_in}
+use Rattle.cqs_rule_laws.specs.SlotSteps.{LaysValue, WasHandedIn}
 
 -- whatever the pass has laid into the element's slot, if anything, is a value
 abbrev pub IsFull : {E S : Type 0} → Bool → ℕ → View E S → Type 0

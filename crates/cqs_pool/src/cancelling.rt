@@ -2,12 +2,13 @@
 
 ghost use Rattle.std.specs.Prelude.{◌≡◌, true};
 ghost use Rattle.cqs_core.specs.declared.doings.Doing.TheVariants as doing;
-ghost use Rattle.cqs_views.specs.Crew.{IsBetween};
+ghost use Rattle.cqs_rule_laws.specs.Crew.{IsBetween};
 ghost use Rattle.cqs_rule.specs.Passes.{pass_view};
 ghost use Rattle.cqs_rule.specs.Waits.{place_of, HasWait};
 ghost use Rattle.cqs_pool.specs.Alone.{IsPlainCancel, CancelsNew};
 ghost use Rattle.cqs_pool.specs.Answers.{LeavesPass};
-ghost use Rattle.cqs_pool.specs.Calls.{IsReady, IsMine};
+ghost use Rattle.cqs_rule_laws.specs.CallRule.{IsReady};
+ghost use Rattle.cqs_pool.specs.Calls.{IsMine};
 ghost use Rattle.cqs_pool.specs.Steps.{HasCancelled, PassedOn};
 
 use crate::answers::{PoolLeft, placed_by};

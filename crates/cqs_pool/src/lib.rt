@@ -19,6 +19,7 @@ mod answers;
 mod cancelling;
 mod client;
 mod element;
+mod histories;
 mod parking;
 mod polling;
 mod pool;

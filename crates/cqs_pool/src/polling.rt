@@ -5,7 +5,8 @@ ghost use Rattle.cqs_rule.specs.Passes.{pass_view};
 ghost use Rattle.cqs_rule.specs.Waits.{place_of, HasWait};
 ghost use Rattle.cqs_pool.specs.Alone.{IsPlainPoll, PollsNew};
 ghost use Rattle.cqs_pool.specs.Answers.{IsPolled};
-ghost use Rattle.cqs_pool.specs.Calls.{IsReady, IsMine, CallRule};
+ghost use Rattle.cqs_rule_laws.specs.CallRule.{IsReady};
+ghost use Rattle.cqs_pool.specs.Calls.{IsMine, CallRule};
 ghost use Rattle.cqs_pool.specs.Entries.{polled_entries};
 
 use crate::answers::PoolPolled;

@@ -2,11 +2,12 @@
 
 ghost use Rattle.std.specs.Prelude.{◌≡◌, ◌⊎◌, ◌+◌, ◌*◌, ◌/◌, ◌<◌, [], ◌∷◌, true, false, IfOk, IsErrOf};
 ghost use mathlib.Core.Logic.{◌↔◌};
-ghost use Rattle.cqs_views.specs.Configured.{is_config};
+ghost use Rattle.cqs_rule_laws.specs.Configured.{is_config};
 ghost use Rattle.cqs_rule.specs.Passes.{pass_view, passes_of, limit_of};
-ghost use Rattle.cqs_views.specs.Views.{first_view};
-ghost use Rattle.cqs_views.specs.declared.config.CancelMode.TheVariants.{Smart};
-ghost use Rattle.cqs_pool.specs.Calls.{IsReady, Rests, IsMine, size_of};
+ghost use Rattle.cqs_rule_laws.specs.Views.{first_view};
+ghost use Rattle.cqs_rule_laws.specs.declared.config.CancelMode.TheVariants.{Smart};
+ghost use Rattle.cqs_rule_laws.specs.CallRule.{IsReady};
+ghost use Rattle.cqs_pool.specs.Calls.{Rests, IsMine, size_of};
 
 use crate::client::PoolClient;
 use cqs_rule::{CancelMode, Carries, Config, Kept, MakeError, Pass, Queue, Unparked};

@@ -1,13 +1,14 @@
 //! The put, and the end of one that was handed back.
 
 ghost use Rattle.std.specs.Prelude.{◌≡◌, [], true, IsOk, IfOk};
-ghost use Rattle.cqs_views.specs.Crew.{IsBetween};
-ghost use Rattle.cqs_views.specs.Lists.{without};
+ghost use Rattle.cqs_rule_laws.specs.Crew.{IsBetween};
+ghost use Rattle.cqs_rule_laws.specs.Lists.{without};
 ghost use Rattle.cqs_rule.specs.Owed.{HasUnder, under_payload, under_reached};
 ghost use Rattle.cqs_rule.specs.Passes.{pass_view};
 ghost use Rattle.cqs_pool.specs.Alone.{CanEnd, IsPlainPut, IsPlainEnd};
 ghost use Rattle.cqs_pool.specs.Answers.{Ends, IsInHand};
-ghost use Rattle.cqs_pool.specs.Calls.{IsReady, IsMine, CallRule, plain_after};
+ghost use Rattle.cqs_rule_laws.specs.CallRule.{IsReady};
+ghost use Rattle.cqs_pool.specs.Calls.{IsMine, CallRule, plain_after};
 ghost use Rattle.cqs_pool.specs.Elements.{number_of};
 ghost use Rattle.cqs_pool.specs.Entries.{put_entries, put_further, placed_further};
 ghost use Rattle.cqs_pool.specs.Steps.{IsFurther};

@@ -4,7 +4,8 @@ ghost use Rattle.std.specs.Prelude.{◌≡◌, true, IfOk, OnOk, OnErr, IsErrOf}
 ghost use Rattle.cqs_rule.specs.Passes.{pass_view};
 ghost use Rattle.cqs_pool.specs.Alone.{IsPlainTake, IsOnlyCaller, TakesFirst, TakesNew};
 ghost use Rattle.cqs_pool.specs.Answers.{IsWorn, IsBelow, Takes};
-ghost use Rattle.cqs_pool.specs.Calls.{IsReady, IsMine, CallRule};
+ghost use Rattle.cqs_rule_laws.specs.CallRule.{IsReady};
+ghost use Rattle.cqs_pool.specs.Calls.{IsMine, CallRule};
 ghost use Rattle.cqs_pool.specs.Entries.{took_entries, took_further};
 
 use crate::answers::Taking;

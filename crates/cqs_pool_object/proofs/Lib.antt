@@ -1,6 +1,10 @@
 pub mod PoolCounts
 pub mod PoolLaw
+pub mod PoolDraws
+pub mod PoolLooks
 pub mod PoolSteps
 pub mod PoolConserved
 pub mod PoolOpens
+pub mod PoolSoleCaller
+pub mod PickedLists
 pub mod PoolOrder

@@ -1,7 +1,7 @@
 -- Every event of a pool keeps what its core shows.
 use Rattle.std.proofs.Common.{◌≡◌, ℕ, ◌+◌, ◌<◌, ◌==◌, ◌&&◌, Bool, true, false, not, List, [], ◌∷◌, ◌++◌, Option, Some, None, length, take, set, slice_get, get_or, refl, ap, ap₂, sym, ◌∙◌, subst, arith, eq-eqb}
 use Rattle.std.specs.List.{sum_by}
-use Rattle.std.proofs.lemmas.List.{length-set, get_or-set_same, length_push}
+use Rattle.std.proofs.lemmas.List.{length-set, get_or-set_same}
 use Rattle.std.proofs.lemmas.List.Sums.{sum_by-set}
 use Rattle.cqs_core.specs.declared.cells.CoreCell.{CoreCell}
 use Rattle.cqs_core.specs.declared.cells.CoreState.{CoreState}
@@ -12,18 +12,15 @@ use Rattle.cqs_core.specs.Numbered.{IsIn, count_at}
 use Rattle.cqs_core.specs.Keyed.{insert_by, without}
 use Rattle.cqs_core.specs.QueueState.{Queue, owner_doing}
 use Rattle.cqs_core.specs.QueueLine as queue
-use Rattle.cqs_core.specs.QueueLine.{Waiting, going, ending, line, in_line, is_resuming, has_left, has_ready, at_door, waiting_of}
+use Rattle.cqs_core.specs.QueueLine.{Waiting, going, ending, line, in_line, has_left, has_ready, waiting_of}
 use Rattle.cqs_core.specs.QueueMoves as move
-use Rattle.cqs_core.specs.QueueMoves.{Works, Owns, IsOpen, move_queue, now_doing, with_cell, at_state, cells_reached, cells_drawn}
+use Rattle.cqs_core.specs.QueueMoves.{Works, Owns, move_queue, at_state}
 use Rattle.cqs_core.specs.QueueSound.{IsSound, IsSoundAt}
 use Rattle.cqs_core.specs.QueueWaiters.{find_wait, Waits}
 use Rattle.cqs_core.proofs.Counts.{bit}
 use Rattle.cqs_core.proofs.Places.{get-set_here, get-below}
-use Rattle.cqs_core.proofs.Keys.{around-came, around-changed}
-use Rattle.cqs_core.proofs.LineMoves.{turn-door, turn-owes, decide-leaves}
-use Rattle.cqs_core.proofs.DrawMoves.{enters-draw}
-use Rattle.cqs_core.proofs.DeliveryMoves.{closes-collect}
-use Rattle.cqs_core.proofs.Picked.{picked-in}
+use Rattle.cqs_core.proofs.Keys.{around-came}
+use Rattle.cqs_core.proofs.LineMoves.{decide-leaves}
 use Rattle.cqs_core.proofs.PickedPlaces.{first-picked}
 use Rattle.cqs_core.proofs.Rising.{length-without}
 use Rattle.cqs_core.proofs.Sound.{sound-moved}
@@ -33,10 +30,10 @@ use Rattle.cqs_core.proofs.DrawMoves.{keeps-reach}
 use Rattle.cqs_core.proofs.QueueServes.{waiting, drawn-own, Serves, serves-take_value, serves-serve}
 use Rattle.cqs_pool_object.specs.declared.entries.PoolEntry.{PoolEntry}
 use Rattle.cqs_pool_object.specs.declared.entries.PoolEntry.TheVariants as entry
-use Rattle.cqs_pool_object.specs.PoolObject.{Given, Pool, opening, IsGiven, times}
-use Rattle.cqs_pool_object.specs.PoolEntries.{IsAllowed, with_given, after_look, after_entry, object_after, IsLegal}
-use Rattle.cqs_pool_object.specs.PoolShown.{PoolShape, way_times, held_times, is_given, services, given_of, Shows, IsPool}
-use Rattle.cqs_pool_object.proofs.PoolCounts.{itself, given_wait, loads-same, loads-set, put_at, PayloadsBut, payloads-same, payloads-set, put-here, brings-write, cells-write, cells-reached, cells-drawn, way-write, way-turn, given-around, given-write, given-drawn, given-reached, times-in, times-cons, times-push, times-without, expected-within}
+use Rattle.cqs_pool_object.specs.PoolObject.{Pool, opening, times}
+use Rattle.cqs_pool_object.specs.PoolEntries.{IsAllowed, with_given, after_entry, object_after, IsLegal}
+use Rattle.cqs_pool_object.specs.PoolShown.{PoolShape, way_times, held_times, services, given_of, Shows, IsPool}
+use Rattle.cqs_pool_object.proofs.PoolCounts.{itself, given_wait, loads-same, loads-set, put_at, PayloadsBut, payloads-same, payloads-set, put-here, brings-write, cells-write, cells-reached, way-write, way-turn, given-around, given-write, given-reached, times-in, times-cons, times-without, expected-within}
 
 -- the cell of a waiter isn't collected
 waiter-of : (q : Queue) (k : ℕ) (found : CoreCell) → IsSound q → slice_get q.cells k ≡ Some found
@@ -93,7 +90,7 @@ module _ (s : PoolShape) (p k : ℕ) (is : IsPool s) where
         none_refused = none;
       }
 
-  pool-push : (loads : List ℕ) (payloads : ℕ → ℕ) (holds : List (List ℕ)) (e : PoolEntry) (q : Queue) → IsSound q
+  pub pool-push : (loads : List ℕ) (payloads : ℕ → ℕ) (holds : List (List ℕ)) (e : PoolEntry) (q : Queue) → IsSound q
       → IsAllowed o e → Shows q loads payloads holds (after_entry o e)
       → length loads ≡ length s.loads → length holds ≡ length s.holds → length q.doing ≡ length s.queue.doing
       → ending q ≡ 0
@@ -112,10 +109,10 @@ module _ (s : PoolShape) (p k : ℕ) (is : IsPool s) where
       (sym (object-push IsAllowed after_entry (opening s.size) s.history e)) shows)
       loaders holders passes none
 
-  loads-there : (d : Doing) → slice_get s.queue.doing p ≡ Some d → p < length s.loads
+  pub loads-there : (d : Doing) → slice_get s.queue.doing p ≡ Some d → p < length s.loads
   loads-there d does = let there = get-below s.queue.doing p d does in omega (arith, is.loaders)
 
-  holds-there : (d : Doing) → slice_get s.queue.doing p ≡ Some d → p < length s.holds
+  pub holds-there : (d : Doing) → slice_get s.queue.doing p ≡ Some d → p < length s.holds
   holds-there d does = let there = get-below s.queue.doing p d does in omega (arith, is.holders)
 
   -- a step that nobody sees: elements go from one place on their way to another
@@ -284,14 +281,14 @@ module _ (s : PoolShape) (p k : ℕ) (is : IsPool s) where
   abbrev held_of : List ℕ
   held_of = get_or s.holds p []
 
-  gained : (e f : ℕ) → p < length s.holds
+  pub gained : (e f : ℕ) → p < length s.holds
       → sum_by (λ xs. times f xs) (set s.holds p (e ∷ held_of)) ≡ sum_by (λ xs. times f xs) s.holds + bit (e == f)
   gained e f there =
       let write = sum_by-set (λ xs. times f xs) s.holds p (e ∷ held_of) [] there in
       let more = times-cons f e held_of in
       omega arith
 
-  lost : (e f : ℕ) → p < length s.holds → IsIn e held_of
+  pub lost : (e f : ℕ) → p < length s.holds → IsIn e held_of
       → sum_by (λ xs. times f xs) (set s.holds p (without itself e held_of)) + bit (e == f) ≡ sum_by
       (λ xs. times f xs) s.holds
   lost e f there has =
@@ -402,122 +399,6 @@ module _ (s : PoolShape) (p k : ℕ) (is : IsPool s) where
       omega arith)
       refl (length-set s.queue.doing p doing.Idle)
 
-  -- An element is put: the pass goes on to resume with it, and draws the first number at once.
-  pub pool-put : (e : ℕ) (found : Option CoreCell) → slice_get s.queue.doing p ≡ Some doing.Idle → IsIn e held_of
-      → slice_get s.queue.cells s.queue.resumes ≡ found
-      → IsPool (record s {
-        loads = set s.loads p e;
-        holds = set s.holds p (without itself e held_of);
-        queue = move_queue (move_queue s.queue (move.turn p doing.Idle doing.Owes))
-            (move.reach p s.queue.resumes found);
-        history = s.history ++ entry.Put p e ∷ [];
-      })
-  pool-put e found does has finds =
-      let loads : List ℕ = set s.loads p e in
-      let holds : List (List ℕ) = set s.holds p (without itself e held_of) in
-      let r : Queue = move_queue s.queue (move.turn p doing.Idle doing.Owes) in
-      let m : move.Move = move.reach p s.queue.resumes found in
-      let owes : slice_get r.doing p ≡ Some doing.Owes = get-set_here s.queue.doing p doing.Idle doing.Owes does in
-      let begins = turn-owes s.queue p does in
-      let keeps = keeps-reach r p found owes in
-      let sound_r : IsSound r = sound-moved s.queue (move.turn p doing.Idle doing.Owes) is.sound (does, tt, tt) in
-      let there : p < length s.holds = holds-there doing.Idle does in
-      let loaded : get_or loads p 0 ≡ e = get_or-set_same s.loads p e 0 (loads-there doing.Idle does) in
-      let shows = is.shows in
-      let one : bit (e == e) ≡ 1 = ap bit (eq-eqb e e refl) in
-      let fewer = lost e e there has in
-      let held : 0 < times e o.held = omega (arith, shows.held e) in
-      let turned = (λ (f : ℕ). brings-write f s.queue.doing p doing.Idle doing.Owes s.loads loads does
-      (loads-set p e s.loads)) in
-      let reached = (λ (f : ℕ). brings-write f r.doing p doing.Owes (doing.Ticket s.queue.resumes) loads loads owes
-      (loads-same p loads)) in
-      let cells = (λ (f : ℕ). cells-reached has_left f s.payloads s.queue.cells found refl) in
-      let readies = (λ (f : ℕ). cells-reached has_ready f s.payloads s.queue.cells found refl) in
-      let brings_e : (f : ℕ) → bit (get_or loads p 0 == f) ≡ bit (e == f) = λ f. ap (λ n. bit (n == f)) loaded in
-      let within = times-in e o.held held in
-      pool-push loads s.payloads holds (entry.Put p e) (move_queue r m)
-      (sound-moved r m sound_r (owes, refl, finds)) within
-      (record {
-        line = shows.line ∙ ap (λ w. w.line) (sym begins.waiters) ∙ ap (λ w. w.line) (sym keeps.waiters);
-        next = shows.next ∙ ap (λ w. w.next) (sym keeps.waiters);
-        served = shows.served ∙ sym (given-reached s.payloads s.queue.cells found);
-        many = omega (arith, length_push o.way e, shows.many, begins.going, keeps.going);
-        way = λ f. omega (arith, times-push f e o.way, shows.way f, turned f, reached f, cells f, brings_e f);
-        held = λ f. omega (arith, times-without f e o.held within, shows.held f, lost e f there has, readies f);
-      })
-      (length-set s.loads p e) (length-set s.holds p (without itself e held_of))
-      (length-set r.doing p (doing.Ticket s.queue.resumes) ∙ length-set s.queue.doing p doing.Owes)
-      (omega (arith, keeps.ending, begins.ending, is.none_refused))
-
-  -- a pass at the door draws its number
-  pub pool-draw_at_door : (found : Option CoreCell) → slice_get s.queue.doing p ≡ Some doing.Door
-      → slice_get s.queue.cells s.queue.suspends ≡ found
-      → IsPool (record s {
-        queue = move_queue s.queue (move.draw p s.queue.suspends found);
-        history = s.history ++ entry.Enter p s.queue.suspends ∷ [];
-      })
-  pool-draw_at_door found does finds =
-      let m : move.Move = move.draw p s.queue.suspends found in
-      let enters = enters-draw s.queue p found is.sound does finds in
-      let shows = is.shows in
-      let drew = (λ (f : ℕ).
-      brings-write f s.queue.doing p doing.Door (doing.Drawn s.queue.suspends) s.loads s.loads does
-      (loads-same p s.loads)) in
-      let cells = (λ (f : ℕ). cells-drawn has_left f s.payloads s.queue p found finds (λ c. refl) refl) in
-      let readies = (λ (f : ℕ). cells-drawn has_ready f s.payloads s.queue p found finds (λ c. refl) refl) in
-      pool-push s.loads s.payloads s.holds (entry.Enter p s.queue.suspends) (move_queue s.queue m)
-      (sound-moved s.queue m is.sound (does, refl, finds)) (sym shows.next)
-      (record {
-        line = ap (λ l. l ++ record { wait = s.queue.suspends; pass = p } ∷ []) shows.line
-            ∙ ap (λ w. w.line) (sym enters.waiters);
-        next = ap (λ n. n + 1) shows.next;
-        served = shows.served ∙ sym (given-drawn s.queue p found s.payloads is.sound finds);
-        many = omega (arith, shows.many, enters.going);
-        way = λ f. omega (arith, shows.way f, drew f, cells f);
-        held = λ f. omega (arith, shows.held f, readies f);
-      })
-      refl refl
-      (length-set s.queue.doing p (doing.Drawn s.queue.suspends))
-      (omega (arith, enters.ending, is.none_refused))
-
-  -- A take draws a number at once.
-  pub pool-draw : (found : Option CoreCell) → slice_get s.queue.doing p ≡ Some doing.Idle
-      → slice_get s.queue.cells s.queue.suspends ≡ found
-      → IsPool (record s {
-        queue = move_queue (move_queue s.queue (move.turn p doing.Idle doing.Door))
-            (move.draw p s.queue.suspends found);
-        history = s.history ++ entry.Enter p s.queue.suspends ∷ [];
-      })
-  pool-draw found does finds =
-      let r : Queue = move_queue s.queue (move.turn p doing.Idle doing.Door) in
-      let m : move.Move = move.draw p s.queue.suspends found in
-      let door : slice_get r.doing p ≡ Some doing.Door = get-set_here s.queue.doing p doing.Idle doing.Door does in
-      let door_came = turn-door s.queue p does in
-      let sound_r : IsSound r = sound-moved s.queue (move.turn p doing.Idle doing.Door) is.sound (does, tt, tt) in
-      let enters = enters-draw r p found sound_r door finds in
-      let shows = is.shows in
-      let turned = (λ (f : ℕ). brings-write f s.queue.doing p doing.Idle doing.Door s.loads s.loads does
-      (loads-same p s.loads)) in
-      let drew = (λ (f : ℕ). brings-write f r.doing p doing.Door (doing.Drawn s.queue.suspends) s.loads s.loads door
-      (loads-same p s.loads)) in
-      let cells = (λ (f : ℕ). cells-drawn has_left f s.payloads s.queue p found finds (λ c. refl) refl) in
-      let readies = (λ (f : ℕ). cells-drawn has_ready f s.payloads s.queue p found finds (λ c. refl) refl) in
-      pool-push s.loads s.payloads s.holds (entry.Enter p s.queue.suspends) (move_queue r m)
-      (sound-moved r m sound_r (door, refl, finds))
-      (sym shows.next)
-      (record {
-        line = ap (λ l. l ++ record { wait = s.queue.suspends; pass = p } ∷ [])
-            (shows.line ∙ ap (λ w. w.line) (sym door_came.waiters)) ∙ ap (λ w. w.line) (sym enters.waiters);
-        next = ap (λ n. n + 1) shows.next;
-        served = shows.served ∙ sym (given-drawn s.queue p found s.payloads is.sound finds);
-        many = omega (arith, shows.many, door_came.going, enters.going);
-        way = λ f. omega (arith, shows.way f, turned f, drew f, cells f);
-        held = λ f. omega (arith, shows.held f, readies f);
-      })
-      refl refl
-      (length-set r.doing p (doing.Drawn s.queue.suspends) ∙ length-set s.queue.doing p doing.Door)
-      (omega (arith, door_came.ending, enters.ending, is.none_refused))
-
   -- A wait leaves: the exchange itself decides that resumptions pass on.
   pub pool-leave : (found : CoreCell) → Works s.queue p doing.Idle k found state.Waiter → Owns p found
       → IsPool (record s {
@@ -563,98 +444,6 @@ module _ (s : PoolShape) (p k : ℕ) (is : IsPool s) where
       bits-none : (found : CoreCell) (f : ℕ) → found.state ≡ state.Waiter
           → bit (has_left found && (s.payloads k == f)) ≡ 0
       bits-none found f at = rw at refl
-
-  -- The looks: the element that came is the pass's.
-  looked : (e : PoolEntry) (found : CoreCell) → Works s.queue p doing.Idle k found state.Resumed → Owns p found
-      → (IsGiven k p (s.payloads k) o.served → IsAllowed o e)
-      → after_entry o e ≡ record o { served = after_look k o.served }
-      → IsPool (record s {
-        holds = set s.holds p (s.payloads k ∷ held_of);
-        queue = move_queue s.queue (move.collect p k found);
-        history = s.history ++ e ∷ [];
-      })
-  looked e found w owns may changes =
-      let x : ℕ = s.payloads k in
-      let new : CoreCell = record { state = found.state; owner = found.owner; collected = true } in
-      let q : Queue = move_queue s.queue (move.collect p k found) in
-      let closing = closes-collect s.queue p k found w owns in
-      let there : p < length s.holds = holds-there doing.Idle w.does in
-      let shows = is.shows in
-      let was : is_given s.payloads k found ≡ Some (record { wait = k; pass = p; element = x; is_open = true }) =
-      rw (w.at, owns.owner, owns.uncollected) refl in
-      let now : is_given s.payloads k new ≡ Some (record { wait = k; pass = p; element = x; is_open = false }) =
-      rw (w.at, owns.owner) refl in
-      let was_in : IsGiven k p x (services s.queue s.payloads) =
-      picked-in (is_given s.payloads) 0 s.queue.cells k k found
-      (record { wait = k; pass = p; element = x; is_open = true }) (omega arith) w.finds was in
-      let around = given-around s.queue.cells k found new s.payloads s.payloads w.finds (payloads-same k s.payloads) in
-      let served : services q s.payloads ≡ after_look k (services s.queue s.payloads) =
-      around-changed given_wait k _ _ _ _ around (record { wait = k; pass = p; element = x; is_open = true })
-      (λ g. record { wait = g.wait; pass = g.pass; element = g.element; is_open = false }) was now refl in
-      let lefts = (λ (f : ℕ). cells-write has_left f s.queue.cells k found new s.payloads s.payloads w.finds
-      (payloads-same k s.payloads)) in
-      let readies = (λ (f : ℕ). cells-write has_ready f s.queue.cells k found new s.payloads s.payloads w.finds
-      (payloads-same k s.payloads)) in
-      let none = (λ (f : ℕ). none-left found f w.at) in
-      let had = (λ (f : ℕ). was-ready found f w.at owns.uncollected) in
-      pool-push s.loads s.payloads (set s.holds p (x ∷ held_of)) e q
-      (sound-moved s.queue (move.collect p k found) is.sound (w, owns))
-      (may (subst (λ (v : List Given). IsGiven k p x v) (sym shows.served) was_in))
-      (subst (λ (y : Pool). Shows q s.loads s.payloads (set s.holds p (x ∷ held_of)) y) (sym changes)
-      (record {
-        line = shows.line ∙ ap (λ w. w.line) (sym closing.waiters);
-        next = shows.next ∙ ap (λ w. w.next) (sym closing.waiters);
-        served = ap (after_look k) shows.served ∙ sym served;
-        many = omega (arith, shows.many, closing.going);
-        way = λ f. omega (arith, shows.way f, lefts f, none f);
-        held = λ f. omega (arith, shows.held f, readies f, had f, gained x f there);
-      }))
-      refl (length-set s.holds p (x ∷ held_of)) refl (omega (arith, closing.ending, is.none_refused))
-    where
-      none-left : (found : CoreCell) (f : ℕ) → found.state ≡ state.Resumed
-          → bit (has_left found && (s.payloads k == f)) ≡ 0
-      none-left found f at = rw at refl
-
-      was-ready : (found : CoreCell) (f : ℕ) → found.state ≡ state.Resumed → found.collected ≡ false
-          → bit (has_ready found && (s.payloads k == f)) + 0
-          ≡ bit (s.payloads k == f) + bit
-          (has_ready (record { state = found.state; owner = found.owner; collected = true }) && (s.payloads k == f))
-      was-ready found f at un = rw (at, un) (omega arith)
-
-  pub pool-granted : (found : CoreCell) → Works s.queue p doing.Idle k found state.Resumed → Owns p found
-      → IsPool (record s {
-        holds = set s.holds p (s.payloads k ∷ held_of);
-        queue = move_queue s.queue (move.collect p k found);
-        history = s.history ++ entry.LookGranted p k (s.payloads k) ∷ [];
-      })
-  pool-granted found w owns = looked (entry.LookGranted p k (s.payloads k)) found w owns (λ h. h) refl
-
-  pub pool-late : (found : CoreCell) → Works s.queue p doing.Idle k found state.Resumed → Owns p found
-      → IsPool (record s {
-        holds = set s.holds p (s.payloads k ∷ held_of);
-        queue = move_queue s.queue (move.collect p k found);
-        history = s.history ++ entry.Late p k (s.payloads k) ∷ [];
-      })
-  pool-late found w owns = looked (entry.Late p k (s.payloads k)) found w owns (λ h. h) refl
-
-  pub pool-pending : (found : CoreCell) → Works s.queue p doing.Idle k found state.Waiter → Owns p found
-      → IsPool (record s { history = s.history ++ entry.LookPending p k ∷ [] })
-  pool-pending found w owns =
-      let shows = is.shows in
-      let waits : in_line s.queue.doing k found ≡ Some (waiting k p) = rw (w.at, owns.owner) refl in
-      let stands = picked-in (in_line s.queue.doing) 0 s.queue.cells k k found (waiting k p)
-      (omega arith) w.finds waits in
-      pool-push s.loads s.payloads s.holds (entry.LookPending p k) s.queue is.sound
-      (subst (λ (l : List Waiting). Waits k p l) (sym shows.line) stands)
-      (record {
-        line = shows.line;
-        next = shows.next;
-        served = shows.served;
-        many = shows.many;
-        way = shows.way;
-        held = shows.held;
-      })
-      refl refl refl is.none_refused
 
   -- No resumption meets a refused cell, and no canceller refuses one.
   pub pool-none_refused : (found : CoreCell) → Works s.queue p (doing.Ticket k) k found state.Refused → ⊥

@@ -2,40 +2,33 @@
 use Rattle.std.proofs.Common.{◌≡◌, ◌≢◌, ◌⊎◌, inl, inr, ℕ, zero, suc, ◌+◌, ◌<◌, ◌≤◌, ◌==◌, Bool, true, false, List, [], ◌∷◌, ◌++◌, Option, Some, None, length, set, slice_get, replicate, refl, ap, ap₂, sym, ◌∙◌, subst, arith, eq-eqb, append-nil, ne_eqb, if◌then◌else◌}
 use Rattle.std.specs.Prelude.{slice_index}
 use Rattle.std.specs.List.{fold}
-use Rattle.std.specs.Option.{option_and_then}
 use Rattle.std.proofs.lemmas.Bool.{cases_eq, cases_lt}
 use Rattle.std.proofs.lemmas.List.{get_or-set_same}
 use Rattle.std.proofs.lemmas.Option.{same_Some}
-use Rattle.std.proofs.lemmas.List.Elements.{filter-append}
 use Rattle.std.proofs.lemmas.List.Sums.{fold-append}
 use Rattle.cqs_core.specs.declared.cells.CoreCell.{CoreCell}
 use Rattle.cqs_core.specs.declared.cells.CoreState.{CoreState}
 use Rattle.cqs_core.specs.declared.cells.CoreState.TheVariants as state
 use Rattle.cqs_core.specs.declared.doings.Doing.{Doing}
 use Rattle.cqs_core.specs.declared.doings.Doing.TheVariants as doing
-use Rattle.cqs_core.specs.Numbered.{pick_each, cons_option, EachAt}
-use Rattle.cqs_core.specs.Parts.{part}
+use Rattle.cqs_core.specs.Numbered.{pick_each}
 use Rattle.cqs_core.specs.QueueLine.{has_left, is_left, is_resuming}
 use Rattle.cqs_core.specs.QueueMoves as move
 use Rattle.cqs_core.specs.QueueMoves.{Works, move_queue}
 use Rattle.cqs_core.specs.QueueOpening.{value_cell}
-use Rattle.cqs_core.specs.QueueSound.{IsSound, IsSoundAt, IsUninstalled, IsLeft, IsOwn, IsUntaken}
+use Rattle.cqs_core.specs.QueueSound.{IsSoundAt, IsOwn, IsUntaken}
 use Rattle.cqs_core.specs.QueueStages.{doing_at}
-use Rattle.cqs_core.specs.QueueState.{Queue, owner_doing, fresh_cell}
+use Rattle.cqs_core.specs.QueueState.{fresh_cell}
 use Rattle.cqs_core.specs.QueueSteps as step
 use Rattle.cqs_core.specs.QueueSteps.{QueueStep, row_of, StepRow, CellRow, at_cell, at_counter, wait_stays, nothing, IsOpenStep, cell_after, row_after, queue_after, payloads_after}
 use Rattle.cqs_core.proofs.OpenRows.{WhereOpen, where-open}
 use Rattle.cqs_core.proofs.Counts.{bit}
-use Rattle.cqs_core.proofs.EachAtLemmas.{EachAt-write, EachAt-push}
-use Rattle.cqs_core.proofs.Picked.{AgreeBut, picked-behind, picked-push}
+use Rattle.cqs_core.proofs.Picked.{AgreeBut, picked-push}
 use Rattle.cqs_core.proofs.Places.{get-below, get-set_here}
 use Rattle.cqs_core.proofs.QueueOpens.{get-replicate}
-use Rattle.cqs_core.proofs.Quiet.{picked-none}
-use Rattle.cqs_pool_object.specs.declared.entries.PoolEntry.{PoolEntry}
 use Rattle.cqs_pool_object.specs.declared.entries.PoolEntry.TheVariants as entry
 use Rattle.cqs_pool_object.specs.PoolObject.{Pool, opening, numbers_from, times}
 use Rattle.cqs_pool_object.specs.PoolEntries.{after_entry, object_after, less}
-use Rattle.cqs_pool_object.specs.PoolNames.{entry_names}
 use Rattle.cqs_pool_object.specs.PoolShown.{PoolShape, IsPool}
 use Rattle.cqs_pool_object.specs.PoolSteps.{IsPoolStep, IsPayload, step_entries, loads_gained, loads_after, left_after, shape_after}
 use Rattle.cqs_pool_object.specs.PoolLaws.{opening_shape}
@@ -43,62 +36,8 @@ use Rattle.cqs_pool_object.specs.PoolOrder.{IsFirstOnWay, IsByOne, element_in, l
 use Rattle.cqs_pool_object.proofs.PoolConserved.{conserved-after}
 use Rattle.cqs_pool_object.proofs.PoolCounts.{put_at, payloads-set, put-here, times-cons, times-push}
 use Rattle.cqs_pool_object.proofs.PoolLaw.{pool-none_refused}
-
--- what is read off a list whose one element is written
-module _ {X Y : Type 0} where
-  -- the same is read
-  picked-kept : (f g : ℕ → X → Option Y) (n : ℕ) → AgreeBut f g n → (k : ℕ) (xs : List X) (i : ℕ) (old new : X)
-      → n ≡ k + i → slice_get xs i ≡ Some old → f n old ≡ g n new → pick_each g k (set xs i new) ≡ pick_each f k xs
-  picked-kept f g n agree k [] i old new at there same = absurd (cc)
-  picked-kept f g n agree k (x ∷ xs) zero old new at there same =
-      let here : k ≡ n = omega arith in
-      let first : x ≡ old = cc in
-      let now : g k new ≡ f k x = rw (here, first) (sym same) in
-      ap₂ cons_option now (sym (picked-behind f g n agree (suc k) xs (omega arith)))
-  picked-kept f g n agree k (x ∷ xs) (suc i) old new at there same =
-      ap₂ cons_option (sym (agree.at k x (λ e. omega arith)))
-      (picked-kept f g n agree (suc k) xs i old new (omega arith) there same)
-
-  -- the first of it goes
-  picked-went : (f : ℕ → X → Option Y) (k : ℕ) (xs : List X) (i n : ℕ) (old new : X) (y : Y)
-      → n ≡ k + i → slice_get xs i ≡ Some old → f n old ≡ Some y → f n new ≡ None
-      → ((j m : ℕ) (x : X) → m ≡ k + j → j < i → slice_get xs j ≡ Some x → f m x ≡ None)
-      → pick_each f k xs ≡ y ∷ pick_each f k (set xs i new)
-  picked-went f k [] i n old new y at there some none before = absurd (cc)
-  picked-went f k (x ∷ xs) zero n old new y at there some none before =
-      let here : k ≡ n = omega arith in
-      let first : x ≡ old = cc in
-      let was : f k x ≡ Some y = rw (here, first) some in
-      let now : f k new ≡ None = rw here none in
-      rw (was, now) refl
-  picked-went f k (x ∷ xs) (suc i) n old new y at there some none before =
-      let nothing : f k x ≡ None = before 0 k x (omega arith) (omega arith) refl in
-      rw nothing (picked-went f (suc k) xs i n old new y (omega arith) there some none
-      (λ j m z is low got. before (suc j) m z (omega arith) (omega arith) got))
-
-  -- one more comes last
-  picked-came : (f g : ℕ → X → Option Y) (n : ℕ) → AgreeBut f g n → (k : ℕ) (xs : List X) (i : ℕ) (old new : X) (y : Y)
-      → n ≡ k + i → slice_get xs i ≡ Some old → f n old ≡ None → g n new ≡ Some y
-      → ((j m : ℕ) (x : X) → m ≡ k + j → i < j → slice_get xs j ≡ Some x → f m x ≡ None)
-      → pick_each g k (set xs i new) ≡ pick_each f k xs ++ y ∷ []
-  picked-came f g n agree k [] i old new y at there none some behind = absurd (cc)
-  picked-came f g n agree k (x ∷ xs) zero old new y at there none some behind =
-      let here : k ≡ n = omega arith in
-      let first : x ≡ old = cc in
-      let was : f k x ≡ None = rw (here, first) none in
-      let now : g k new ≡ Some y = rw here some in
-      let nothing : pick_each f (suc k) xs ≡ [] =
-      picked-none f (suc k) xs (λ j m z is got. behind (suc j) m z (omega arith) (omega arith) got) in
-      rw (was, now, sym (picked-behind f g n agree (suc k) xs (omega arith)), nothing) refl
-  picked-came f g n agree k (x ∷ xs) (suc i) old new y at there none some behind =
-      let rest = picked-came f g n agree (suc k) xs i old new y (omega arith) there none some
-      (λ j m z is low got. behind (suc j) m z (omega arith) (omega arith) got) in
-      let same : f k x ≡ g k x = agree.at k x (λ e. omega arith) in
-      ap₂ cons_option (sym same) rest ∙ behind-cons (f k x) (pick_each f (suc k) xs) y
-    where
-      behind-cons : (o : Option Y) (ys : List Y) (y : Y) → cons_option o (ys ++ y ∷ []) ≡ cons_option o ys ++ y ∷ []
-      behind-cons None ys y = refl
-      behind-cons (Some z) ys y = refl
+use Rattle.cqs_pool_object.proofs.PoolSoleCaller.{OthersRest, Undelegated, busy-one, by-both, named-one, none-cancelling, none-left, none-past, others-set, undelegated-push, undelegated-set, value-drawn}
+use Rattle.cqs_pool_object.proofs.PickedLists.{picked-came, picked-kept, picked-went}
 
 -- the row of a step at a cell
 abbrev row_in : StepRow → CellRow
@@ -124,125 +63,6 @@ agree-brought : (payloads : ℕ → ℕ) (n e : ℕ) → AgreeBut (element_in pa
 agree-brought payloads n e = record {
   at = λ m x other. ap (left_in (has_left x)) (sym ((payloads-set n e payloads).others m other));
 }
-
--- who made the calls
-append-none : {A : Type 0} (xs ys : List A) → xs ++ ys ≡ [] → (xs ≡ []) × (ys ≡ [])
-append-none [] ys none = (refl, none)
-append-none (x ∷ xs) ys none = absurd (cc)
-
-by-both : (one : ℕ) (h es : List PoolEntry) → IsByOne one (h ++ es) → IsByOne one h × IsByOne one es
-by-both one h es by = (λ n other. (both n other).0, λ n other. (both n other).1)
-  where
-    both : (n : ℕ) → n ≢ one → (part entry_names n h ≡ []) × (part entry_names n es ≡ [])
-    both n other =
-        append-none (part entry_names n h) (part entry_names n es)
-        (sym (filter-append (entry_names n) h es) ∙ by n other)
-
-named-one : (p one : ℕ) (e : PoolEntry) → entry_names p e ≡ true → IsByOne one (e ∷ []) → p ≡ one
-named-one p one e names by = go (cases_eq p one)
-  where
-    go : (p ≡ one) ⊎ (p ≢ one) → p ≡ one
-    go (inl same) = same
-    go (inr other) =
-        let none : part entry_names p (e ∷ []) ≡ [] = by p other in
-        let some : part entry_names p (e ∷ []) ≡ e ∷ [] = rw names refl in
-        absurd (cc)
-
-abbrev OthersRest : ℕ → List Doing → Type 0
-OthersRest one passes = EachAt (λ n d. n ≢ one → d ≡ doing.Idle) passes
-
-busy-one : (passes : List Doing) (p one : ℕ) (d : Doing) → OthersRest one passes → slice_get passes p ≡ Some d
-    → (d ≡ doing.Idle → ⊥) → p ≡ one
-busy-one passes p one d others does busy = go (cases_eq p one)
-  where
-    go : (p ≡ one) ⊎ (p ≢ one) → p ≡ one
-    go (inl same) = same
-    go (inr other) = absurd (busy (others.at p d does other))
-
-others-set : (passes : List Doing) (p : ℕ) (d to : Doing) → slice_get passes p ≡ Some d → OthersRest p passes
-    → OthersRest p (set passes p to)
-others-set passes p d to does others =
-    EachAt-write (λ n x. n ≢ p → x ≡ doing.Idle) (λ n x. n ≢ p → x ≡ doing.Idle) passes p d to does
-    (λ other. absurd (other refl)) (λ n x got other is. is) others
-
-abbrev Undelegated : List CoreCell → Type 0
-Undelegated cells = EachAt (λ k (cell : CoreCell). cell.state ≢ state.Delegated) cells
-
-undelegated-set : (cells : List CoreCell) (k : ℕ) (found new : CoreCell) → slice_get cells k ≡ Some found
-    → new.state ≢ state.Delegated → Undelegated cells → Undelegated (set cells k new)
-undelegated-set cells k found new there not all =
-    EachAt-write (λ j (c : CoreCell). c.state ≢ state.Delegated) (λ j (c : CoreCell). c.state ≢ state.Delegated) cells
-    k found new there not (λ j x got other is. is) all
-
-undelegated-push : (cells : List CoreCell) (new : CoreCell) → new.state ≢ state.Delegated → Undelegated cells
-    → Undelegated (cells ++ new ∷ [])
-undelegated-push cells new not all =
-    EachAt-push (λ j (c : CoreCell). c.state ≢ state.Delegated) (λ j (c : CoreCell). c.state ≢ state.Delegated) cells
-    new not (λ j x got is. is) all
-
--- an owner of an uninstalled cell is about to install there
-owner-draws : (q : Queue) (k : ℕ) (cell : CoreCell) (pass : ℕ) (d : Doing) → cell.owner ≡ Some pass
-    → owner_doing q.doing cell ≡ Some d → slice_get q.doing pass ≡ Some d
-owner-draws q k cell pass d owner does =
-    sym (ap (λ o. option_and_then (λ p. slice_get q.doing p) o) owner) ∙ does
-
-module _ (q : Queue) (sound : IsSound q) (p : ℕ) (others : OthersRest p q.doing) where
-  -- a value in a cell that a suspend has drawn is the one that the pass is about to take
-  value-drawn : (j : ℕ) (cell : CoreCell) → IsUninstalled q j cell → j < q.suspends
-      → slice_get q.doing p ≡ Some (doing.Drawn j)
-  value-drawn j cell (inl (entered, drawn)) low =
-      let does = owner-draws q j cell entered.pass (doing.Drawn j) entered.owner drawn in
-      let is : entered.pass ≡ p = busy-one q.doing entered.pass p (doing.Drawn j) others does (λ e. absurd (cc)) in
-      ap (slice_get q.doing) (sym is) ∙ does
-  value-drawn j cell (inr (past, none)) low = absurd (omega arith)
-
-  none-left : (k j : ℕ) (cell : CoreCell) (s : CoreState) → slice_get q.doing p ≡ Some (doing.Drawn k) → j ≢ k
-      → j < q.suspends → IsSoundAt q j cell s → s ≢ state.Delegated → is_left s ≡ false
-  none-left k j cell state.Value does other low is not =
-      let drawn : slice_get q.doing p ≡ Some (doing.Drawn j) = value-drawn j cell is.0 low in
-      let same : doing.Drawn j ≡ doing.Drawn k = same_Some (doing.Drawn j) (doing.Drawn k) (sym drawn ∙ does) in
-      absurd (other (drawn-number same))
-    where
-      drawn-number : {m n : ℕ} → doing.Drawn m ≡ doing.Drawn n → m ≡ n
-      drawn-number e = cc
-  none-left k j cell state.Delegated does other low is not = absurd (not refl)
-  none-left k j cell state.Empty does other low is not = refl
-  none-left k j cell state.Waiter does other low is not = refl
-  none-left k j cell state.Taken does other low is not = refl
-  none-left k j cell state.Broken does other low is not = refl
-  none-left k j cell state.Resumed does other low is not = refl
-  none-left k j cell state.Cancelling does other low is not = refl
-  none-left k j cell state.Cancelled does other low is not = refl
-  none-left k j cell state.Refused does other low is not = refl
-
-  -- nor is anything left in a cell that no resume has reached
-  none-past : (j : ℕ) (cell : CoreCell) (s : CoreState) → q.resumes ≤ j → IsSoundAt q j cell s
-      → s ≢ state.Delegated → is_left s ≡ false
-  none-past j cell state.Value past is not = absurd (omega (arith, is.1))
-  none-past j cell state.Delegated past is not = absurd (not refl)
-  none-past j cell state.Empty past is not = refl
-  none-past j cell state.Waiter past is not = refl
-  none-past j cell state.Taken past is not = refl
-  none-past j cell state.Broken past is not = refl
-  none-past j cell state.Resumed past is not = refl
-  none-past j cell state.Cancelling past is not = refl
-  none-past j cell state.Cancelled past is not = refl
-  none-past j cell state.Refused past is not = refl
-
-  -- a resumption of the one caller finds no cell of a canceller
-  none-cancelling : (k j : ℕ) (cell : CoreCell) → slice_get q.doing p ≡ Some (doing.Ticket k) → IsLeft q j cell → ⊥
-  none-cancelling k j cell does left = go left.stage
-    where
-      own : (d : Doing) → owner_doing q.doing cell ≡ Some d → (d ≡ doing.Idle → ⊥) → doing.Ticket k ≡ d
-      own d is busy =
-          let there = owner-draws q j cell left.entered.pass d left.entered.owner is in
-          let same : left.entered.pass ≡ p = busy-one q.doing left.entered.pass p d others there busy in
-          same_Some (doing.Ticket k) d (sym does ∙ ap (slice_get q.doing) (sym same) ∙ there)
-
-      go : (owner_doing q.doing cell ≡ Some (doing.Leaving j))
-          ⊎ ((on : Bool) × (owner_doing q.doing cell ≡ Some (doing.Decided j on))) → ⊥
-      go (inl leaving) = let is = own (doing.Leaving j) leaving (λ e. absurd (cc)) in absurd (cc)
-      go (inr (on, decided)) = let is = own (doing.Decided j on) decided (λ e. absurd (cc)) in absurd (cc)
 
 -- what is left where the state of the cell is one at which nothing is
 left-none : (payloads : ℕ → ℕ) (k : ℕ) (cell : CoreCell) → has_left cell ≡ false → element_in payloads k cell ≡ None

@@ -16,7 +16,9 @@ use Rattle.cqs_pool_object.specs.declared.entries.PoolEntry.TheVariants as entry
 use Rattle.cqs_pool_object.specs.PoolEntries.{less}
 use Rattle.cqs_pool_object.specs.PoolShown.{PoolShape, IsPool}
 use Rattle.cqs_pool_object.specs.PoolSteps.{IsPoolStep, IsPayload, hold_of, shape_after}
+use Rattle.cqs_pool_object.proofs.PoolDraws as draws
 use Rattle.cqs_pool_object.proofs.PoolLaw as law
+use Rattle.cqs_pool_object.proofs.PoolLooks as looks
 
 -- the same pool, with its history and its queue written so
 same-pool : (s : PoolShape) (history : List PoolEntry) (q : Queue) → history ≡ s.history → q ≡ s.queue → IsPool s
@@ -55,7 +57,8 @@ keeps-pool : (s : PoolShape) (t : QueueStep) (p k e : ℕ) → IsPool s → IsPo
     → WhereOpen s.queue p k (λ found. IsPool (shape_after s t p k found e)) (row_of t)
 keeps-pool s step.draws p k e is may paid = λ found w.
     let here : slice_get s.queue.cells s.queue.suspends ≡ found = ap (slice_get s.queue.cells) (sym w.1) ∙ w.2 in
-    subst (λ j. IsPool (shape_after s step.draws p j found e)) (sym w.1) (law.pool-draw_at_door s p k is found w.0 here)
+    subst (λ j. IsPool (shape_after s step.draws p j found e)) (sym w.1)
+    (draws.pool-draw_at_door s p k is found w.0 here)
 keeps-pool s step.enters p k e is may paid = λ found w.
     let here : slice_get s.queue.cells s.queue.suspends ≡ found = ap (slice_get s.queue.cells) (sym w.1) ∙ w.2 in
     let at : IsPool (record s {
@@ -65,7 +68,7 @@ keeps-pool s step.enters p k e is may paid = λ found w.
     subst (λ j. IsPool (record s {
       queue = move_queue (move_queue s.queue (move.turn p doing.Idle doing.Door)) (move.draw p j found);
       history = s.history ++ entry.Enter p j ∷ [];
-    })) (sym w.1) (law.pool-draw s p k is found w.0 here) in
+    })) (sym w.1) (draws.pool-draw s p k is found w.0 here) in
     same-pool (record s {
       queue = move_queue (move_queue s.queue (move.turn p doing.Idle doing.Door)) (move.draw p k found);
       history = s.history ++ entry.Enter p k ∷ [];
@@ -84,7 +87,7 @@ keeps-pool s step.puts p k e is may paid = λ found w.
       history = s.history ++ entry.Put p e ∷ [];
     } in
     same-pool (after k) _ _ refl (leads s.queue p k step.puts found w is.sound).1
-    (subst (λ j. IsPool (after j)) (sym w.1) (law.pool-put s p k is e found w.0 paid here))
+    (subst (λ j. IsPool (after j)) (sym w.1) (draws.pool-put s p k is e found w.0 paid here))
 keeps-pool s step.installs p k e is may paid = λ found w.
     quiet s (record s { queue = move_queue s.queue (move.install p k found) }) _ refl refl
     (law.pool-install s p k is found w.0)
@@ -125,7 +128,7 @@ keeps-pool s step.settles_owing p k e is may paid = λ found w.
     }) _ refl refl (law.pool-cancel_owing s p k is found w.0))
 keeps-pool s (step.looks step.pends) p k e is may paid = λ found w.
     same-pool (record s { history = s.history ++ entry.LookPending p k ∷ [] }) _ _ refl
-    (leads s.queue p k (step.looks step.pends) (Some found) w is.sound).1 (law.pool-pending s p k is found w.0 w.1)
+    (leads s.queue p k (step.looks step.pends) (Some found) w is.sound).1 (looks.pool-pending s p k is found w.0 w.1)
 keeps-pool s (step.looks step.grants) p k e is may paid = λ found w.
     subst (λ x. IsPool (shape_after s (step.looks step.grants) p k (Some found) x)) (sym paid)
     (same-pool (record s {
@@ -133,7 +136,7 @@ keeps-pool s (step.looks step.grants) p k e is may paid = λ found w.
       queue = move_queue s.queue (move.collect p k found);
       history = s.history ++ entry.LookGranted p k (s.payloads k) ∷ [];
     }) _ _ refl (leads s.queue p k (step.looks step.grants) (Some found) w is.sound).1
-    (law.pool-granted s p k is found w.0 w.1))
+    (looks.pool-granted s p k is found w.0 w.1))
 keeps-pool s (step.looks step.late) p k e is may paid = λ found w.
     subst (λ x. IsPool (shape_after s (step.looks step.late) p k (Some found) x)) (sym paid)
     (same-pool (record s {
@@ -141,7 +144,7 @@ keeps-pool s (step.looks step.late) p k e is may paid = λ found w.
       queue = move_queue s.queue (move.collect p k found);
       history = s.history ++ entry.Late p k (s.payloads k) ∷ [];
     }) _ _ refl (leads s.queue p k (step.looks step.late) (Some found) w is.sound).1
-    (law.pool-late s p k is found w.0 w.1))
+    (looks.pool-late s p k is found w.0 w.1))
 keeps-pool s step.begins p k e is may paid = absurd may
 keeps-pool s step.ends_missed p k e is may paid = absurd may
 keeps-pool s step.starts_leaving p k e is may paid = absurd may

@@ -1,4 +1,9 @@
-//! The blocking pool as a plain object, and what it means that a queue shows it.
+//! The blocking pool as a plain object: what it is to its users, the entries of its history, and
+//! what it means that a queue shows it.
+//!
+//! The object has the elements on their way, in order of their puts, the line of waiters, the waits
+//! that were served, each with its element, and the elements that callers have. Each law is a
+//! function that does nothing: a law is proved where the contract of a function says it.
 #![tactic(auto)]
 
 mod entries;

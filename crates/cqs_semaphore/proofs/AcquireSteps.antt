@@ -1,38 +1,40 @@
 -- An acquire is its steps: a load of the suspend counter, one taken from the state, and perhaps a suspend.
-use Rattle.std.proofs.Common.{◌≡◌, ℕ, ◌+◌, ◌<◌, ◌≤◌, Bool, true, false, List, [], ◌∷◌, ◌++◌, Option, None, Ok, sym, refl, ap, ◌∙◌, subst, append_assoc, arith, if◌then◌else◌}
-use Rattle.std.specs.Prelude.{nat_lt}
-use Rattle.std.proofs.lemmas.Bool.{le-ltb}
+use Rattle.std.proofs.Common.{◌≡◌, ℕ, ◌+◌, ◌<◌, Bool, true, false, List, [], ◌∷◌, ◌++◌, Option, None, Ok, sym, refl, ap, ◌∙◌, subst, append_assoc, if◌then◌else◌}
 use Rattle.cqs_core.specs.declared.doings.Doing.TheVariants as doing
-use Rattle.cqs_core.specs.declared.cells.CoreState.TheVariants as state
 use Rattle.cqs_core.specs.declared.entries.Entry.{Entry}
 use Rattle.cqs_core.specs.declared.entries.Entry.TheVariants as entry
-use Rattle.cqs_core.specs.declared.cells.CoreState.{CoreState}
-use Rattle.cqs_core.specs.QueueSteps.{installs, takes}
+use Rattle.cqs_core.specs.QueueSteps.{draws}
 use Rattle.cqs_core.specs.SemaphoreEntries.{IsLegal}
-use Rattle.cqs_views.specs.declared.view.Facts.{Facts}
-use Rattle.cqs_views.specs.declared.view.Sighting.TheVariants.{Cell, Word}
-use Rattle.cqs_views.specs.declared.view.View.{View}
-use Rattle.cqs_views.specs.Called.{Called}
-use Rattle.cqs_views.specs.Events.{in_any_case}
-use Rattle.cqs_views.specs.Facts.{is_owing}
-use Rattle.cqs_views.specs.Layout.{suspends_place, client_place}
-use Rattle.cqs_views.specs.Lists.{Has, IsPrefix}
-use Rattle.cqs_views.specs.Saw.{Saw}
+use Rattle.cqs_rule_laws.specs.declared.view.Facts.{Facts}
+use Rattle.cqs_rule_laws.specs.declared.view.Has.{Has as OwnHas}
+use Rattle.cqs_rule_laws.specs.declared.view.Sighting.TheVariants.{Word}
+use Rattle.cqs_rule_laws.specs.declared.view.View.{View}
+use Rattle.cqs_rule_laws.specs.Called.{Called}
+use Rattle.cqs_rule_laws.specs.CallRule.{IsReady}
+use Rattle.cqs_rule_laws.specs.Causes.{Counted}
+use Rattle.cqs_rule_laws.specs.Events.{in_any_case}
+use Rattle.cqs_rule_laws.specs.Facts.{is_owing}
+use Rattle.cqs_rule_laws.specs.Layout.{suspends_place, client_place}
+use Rattle.cqs_rule_laws.specs.Lists.{Has, IsPrefix}
+use Rattle.cqs_rule_laws.specs.Saw.{Saw}
 use Rattle.cqs_semaphore_client.specs.Semaphore.{semaphore_object, takes_one}
 use Rattle.cqs_semaphore_client.specs.SemaphoreSteps.{NextIs, OnState}
 use Rattle.cqs_rule.specs.Waits.{place_of}
-use Rattle.cqs_views.proofs.Calls.{called-by, called-then, called-and}
-use Rattle.cqs_suspend.specs.Suspends.{EndsBy}
+use Rattle.cqs_rule_laws.proofs.Calls.{called-by, called-then, called-and}
+use Rattle.cqs_rule_laws.proofs.Causes.{Onward, counted}
+use Rattle.cqs_rule_laws.proofs.Lists.{prefix-then}
+use Rattle.cqs_rule_laws.proofs.Prefixes.{prefix-same, saw-prefix}
+use Rattle.cqs_rule_laws.proofs.Rules.{call-rule, call-rule_own}
+use Rattle.cqs_suspend.proofs.Sat.{sat-taken, sat-installed}
 use Rattle.cqs_words.specs.State.{count_in, is_above_zero}
-use Rattle.cqs_semaphore.specs.Answers.{IsWorn, IsBelow, WasFree, WasNone, Takes, Acquires, facts_refused}
-use Rattle.cqs_semaphore.specs.Calls.{IsReady, CallRule}
-use Rattle.cqs_semaphore.specs.Causes.{primitive_of, CellWas, Counted, StateWas, state_after}
+use Rattle.cqs_semaphore.specs.Answers.{IsBelow, WasFree, WasNone, Takes, Acquires}
+use Rattle.cqs_semaphore.specs.Calls.{CallRule}
+use Rattle.cqs_semaphore.specs.Causes.{primitive_of, drawn_in, StateWas, state_after}
 use Rattle.cqs_semaphore.specs.Entries.{took_entries, came_by, acquired_entries, acquired_further}
 use Rattle.cqs_semaphore.specs.Steps.{WaitsInLine}
 use Rattle.cqs_semaphore.specs.declared.answers.Acquired.{Acquired}
 use Rattle.cqs_semaphore.specs.declared.answers.Acquired.TheVariants.{Now, Later}
-use Rattle.cqs_semaphore.proofs.Rules.{call-rule, call-rule_own}
-use Rattle.cqs_semaphore.proofs.States.{prefix-same, prefix-then, prefix-more, saw-prefix, called-prefix, counted, state-was, state-later, count-above, count-not_above}
+use Rattle.cqs_semaphore.proofs.States.{next-count, state-was, state-later, count-above, count-not_above}
 
 -- what a step that takes one from the state leaves a pass at, by whether one was free
 abbrev pub took_by : Bool → ℕ → List Entry
@@ -59,38 +61,13 @@ module _ {T : Type 0} where
   took b n u x is o =
       subst (λ z. TookBy z n u x) is (record { saw = o.saw; before = o.before; seen = o.seen; state = o.state })
 
-  -- the counter was at the limit
-  pub worn : (v u : View Entry T) (n : ℕ) → NextIs v n u → v.limit ≤ n → IsWorn v u
-  worn v u n next high =
-      let off : nat_lt n v.limit ≡ false = le-ltb n v.limit high in
-      let facts : u.facts ≡ facts_refused n v.facts = next.saw.facts_are
-      ∙ ap (λ b. record v.facts {
-        may_draw = (if b then true else v.facts.may_draw);
-        found = v.facts.found ++ Word suspends_place n ∷ [];
-      }) off in
-      record {
-        loaded = n;
-        worn = high;
-        counted = counted v u u n next (prefix-same u.seen) (prefix-same u.facts.found);
-        facts_are = facts;
-      }
-
-  pub worn-called : (v u : View Entry T) (n : ℕ) → NextIs v n u → Called semaphore_object v [] [] u
-  worn-called v u n next = called-by semaphore_object v u _ [] next.saw
-
-  pub worn-ready : (v u : View Entry T) (n : ℕ) → NextIs v n u → IsReady v.facts → IsReady u.facts
-  worn-ready v u n next r = record {
-    idle = ap (λ (f : Facts). f.doing) next.saw.facts_are ∙ r.idle;
-    further = ap (λ (f : Facts). f.has.further) next.saw.facts_are ∙ r.further;
-  }
-
   -- The pass loaded the counter below the limit, and took one from the state.
   pub record Came (b : Bool) (v x : View Entry T) : Type 0 where
     pub called : Called semaphore_object v (took_by b v.number) (took_by b v.number) x
     pub loaded : ℕ
     pub at_load : List Entry
     pub below : loaded < v.limit
-    pub counted : Counted v loaded at_load x
+    pub counted : Counted drawn_in v loaded at_load x
     pub word : ℕ
     pub word_is : is_above_zero word ≡ b
     pub before : List Entry
@@ -116,13 +93,14 @@ module _ {T : Type 0} where
         loaded = n;
         at_load = u.seen;
         below = low;
-        counted = counted v u x n next (saw-prefix u x _ _ t.saw) (Word (client_place 0) m ∷ [], found_x);
+        counted = counted semaphore_object drawn_in v u n next.saw x (next-count v u n next)
+            (saw-prefix semaphore_object u x _ _ t.saw) (Word (client_place 0) m ∷ [], found_x);
         word = m;
         word_is = is;
         before = t.before;
         found = subst (λ p. StateWas v (count_in m) t.before (took_by b p) x) number
             (state-was v u x x _ (took_by b u.number) t.before m (Word suspends_place n ∷ [])
-            (saw-prefix v u _ _ next.saw) t.saw
+            (saw-prefix semaphore_object v u _ _ next.saw) t.saw
             t.seen t.state
             (found_x ∙ (ap (λ l. l ++ Word (client_place 0) m ∷ []) found_u
             ∙ append_assoc v.facts.found (Word suspends_place n ∷ []) (Word (client_place 0) m ∷ [])))
@@ -165,58 +143,13 @@ module _ {T : Type 0} where
     };
   }
 
-  pub was-none : (v x w : View Entry T) → Came false v x → IsPrefix x.seen w.seen
-      → IsPrefix x.facts.found w.facts.found → w.opening ≡ x.opening → WasNone v w
-  was-none v x w c seen found opening = record {
+  pub was-none : (v x w : View Entry T) → Came false v x → Onward x w → WasNone v w
+  was-none v x w c on = record {
     count = count_in c.word;
     before = c.before;
     none = count-not_above c.word c.word_is;
-    found = state-later v x w _ c.before _ c.found seen found opening;
+    found = state-later v x w _ c.before _ c.found on.seen on.found on.opening;
   }
-
-  -- The pass was at the door, and its suspend ended with a step on the cell of its number.
-  record Sat (k payload : ℕ) (own : List Entry) (waits : List ℕ) (more : ℕ) (seen_in : CoreState) (x w : View Entry T)
-      : Type 0 where
-    found : IsPrefix x.facts.found w.facts.found
-    opening : w.opening ≡ x.opening
-    seen : IsPrefix x.seen w.seen
-    cell : CellWas seen_in k own w
-    held : w.facts.has.held ≡ x.facts.has.held + more
-    further : w.facts.has.further ≡ x.facts.has.further
-    idle : w.facts.doing ≡ doing.Idle
-    waits_are : w.facts.waits ≡ waits
-
-  sat-taken : (k payload : ℕ) (x w : View Entry T) → EndsBy semaphore_object primitive_of takes 2 k payload x w
-      → Sat k payload (entry.Deliver k ∷ []) x.facts.waits 1 state.Value x w
-  sat-taken k payload x w e =
-      let all = ap (λ (f : Facts). f.found) e.facts_are in
-      record {
-        found = subst (IsPrefix x.facts.found) (sym all)
-            (prefix-more x.facts.found (Word suspends_place k ∷ []) e.found (Cell k e.word ∷ []));
-        opening = e.called.same.opening;
-        seen = called-prefix x w _ _ e.called;
-        cell = record { word = e.word; payload = payload; cell = e.cell; found = (_, all); was = e.was };
-        held = ap (λ (f : Facts). f.has.held) e.facts_are;
-        further = ap (λ (f : Facts). f.has.further) e.facts_are;
-        idle = ap (λ (f : Facts). f.doing) e.facts_are;
-        waits_are = ap (λ (f : Facts). f.waits) e.facts_are;
-      }
-
-  sat-installed : (k : ℕ) (x w : View Entry T) → EndsBy semaphore_object primitive_of installs 0 k 0 x w
-      → Sat k 0 [] (x.facts.waits ++ k ∷ []) 0 state.Empty x w
-  sat-installed k x w e =
-      let all = ap (λ (f : Facts). f.found) e.facts_are in
-      record {
-        found = subst (IsPrefix x.facts.found) (sym all)
-            (prefix-more x.facts.found (Word suspends_place k ∷ []) e.found (Cell k e.word ∷ []));
-        opening = e.called.same.opening;
-        seen = called-prefix x w _ _ e.called;
-        cell = record { word = e.word; payload = 0; cell = e.cell; found = (_, all); was = e.was };
-        held = ap (λ (f : Facts). f.has.held) e.facts_are ∙ omega arith;
-        further = ap (λ (f : Facts). f.has.further) e.facts_are;
-        idle = ap (λ (f : Facts). f.doing) e.facts_are;
-        waits_are = ap (λ (f : Facts). f.waits) e.facts_are;
-      }
 
   pub waits-called : (v x w : View Entry T) (a : Acquired) → Came false v x → WaitsInLine x a w
       → Has v.number v.own → IsLegal w.opening.size w.seen
@@ -224,49 +157,49 @@ module _ {T : Type 0} where
   waits-called v x w (Now permit) c e own legal =
       let k = e.0 in
       subst (λ (n : Option ℕ). CallRule v (took_entries v.number n) (came_by n) w) (sym e.2)
-      (call-rule v w (entry.TakeDoor v.number ∷ entry.Enter v.number k ∷ []) (entry.Deliver k ∷ [])
+      (call-rule semaphore_object v w (entry.TakeDoor v.number ∷ entry.Enter v.number k ∷ []) (entry.Deliver k ∷ [])
       (subst (λ p. Called semaphore_object v
       (entry.TakeDoor v.number ∷ entry.Enter p k ∷ entry.Deliver k ∷ []) (entry.Deliver k ∷ []) w) c.called.same.number
       (called-and semaphore_object v x w _ _ _ _ c.called e.3.called))
       (λ n. refl, (λ n. refl, tt)) (λ n. refl, tt) own legal)
   waits-called v x w (Later wait) c e own legal =
       let k = (place_of wait).index in
-      call-rule_own v w (entry.TakeDoor v.number ∷ entry.Enter v.number k ∷ []) []
+      call-rule_own semaphore_object v w (entry.TakeDoor v.number ∷ entry.Enter v.number k ∷ []) []
       (subst (λ p. Called semaphore_object v (entry.TakeDoor v.number ∷ entry.Enter p k ∷ []) [] w) c.called.same.number
       (called-and semaphore_object v x w _ _ _ _ c.called e.0.called))
       (λ n. refl, (λ n. refl, tt)) own legal
 
   pub waits-below : (v x w : View Entry T) (a : Acquired) → Came false v x → WaitsInLine x a w → IsBelow v w
   waits-below v x w (Now permit) c e =
-      let s = sat-taken e.0 e.1 x w e.3 in below-later false v x w c s.seen s.found
+      let on = (sat-taken semaphore_object primitive_of draws 2 e.0 e.1 x w e.3).onward in
+      below-later false v x w c on.seen on.found
   waits-below v x w (Later wait) c e =
-      let s = sat-installed (place_of wait).index x w e.0 in below-later false v x w c s.seen s.found
+      let on = (sat-installed semaphore_object primitive_of draws 0 (place_of wait).index 0 x w e.0).onward in
+      below-later false v x w c on.seen on.found
 
   pub waits-acquired : (v x w : View Entry T) (a : Acquired) → IsReady v.facts → Came false v x → WaitsInLine x a w
       → Acquires v a w
   waits-acquired v x w (Now permit) r c e =
       let k = e.0 in
-      let s = sat-taken k e.1 x w e.3 in
+      let s = sat-taken semaphore_object primitive_of draws 2 k e.1 x w e.3 in
       subst (λ (n : Option ℕ). Takes v n w) (sym e.2) (
-        was-none v x w c s.seen s.found s.opening,
-        s.cell,
+        was-none v x w c s.onward,
+        s.cell.0,
         record {
-          ready = record { idle = s.idle; further = s.further ∙ (c.further ∙ r.further) };
-          held_is = s.held ∙ ap (λ h. h + 1) c.held;
+          ready = record { idle = s.idle; further = ap (λ (h : OwnHas). h.further) s.has_is ∙ (c.further ∙ r.further) };
+          held_is = ap (λ (h : OwnHas). h.held) s.has_is ∙ ap (λ h. h + 1) c.held;
           waits_are = s.waits_are ∙ c.waits;
         },
       )
   waits-acquired v x w (Later wait) r c e =
       let k = (place_of wait).index in
-      let s = sat-installed k x w e.0 in
-      let held = s.held in
-      let held_x : x.facts.has.held ≡ v.facts.has.held = c.held in (
-        was-none v x w c s.seen s.found s.opening,
-        s.cell,
+      let s = sat-installed semaphore_object primitive_of draws 0 k 0 x w e.0 in (
+        was-none v x w c s.onward,
+        s.cell.0,
         e.1,
         record {
-          ready = record { idle = s.idle; further = s.further ∙ (c.further ∙ r.further) };
-          held_is = omega arith;
+          ready = record { idle = s.idle; further = ap (λ (h : OwnHas). h.further) s.has_is ∙ (c.further ∙ r.further) };
+          held_is = ap (λ (h : OwnHas). h.held) s.has_is ∙ c.held;
           waits_are = s.waits_are ∙ ap (λ l. l ++ k ∷ []) c.waits;
         },
       )

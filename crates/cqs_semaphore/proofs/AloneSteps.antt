@@ -32,10 +32,10 @@ use Rattle.cqs_core.proofs.Places.{get-append_left, get-push_at, get-below}
 use Rattle.cqs_core.proofs.Quiet.{nobody-at_door, behind, none-going}
 use Rattle.cqs_core.proofs.Rising.{in-none, in-behind}
 use Rattle.cqs_core.proofs.Waits.{found-waits}
-use Rattle.cqs_views.specs.declared.view.View.{View}
-use Rattle.cqs_views.specs.declared.view.Opening.{Opening}
-use Rattle.cqs_views.specs.Alone.{IsAlone, TellsAlone}
-use Rattle.cqs_views.specs.Hidden.{state_in}
+use Rattle.cqs_rule_laws.specs.declared.view.View.{View}
+use Rattle.cqs_rule_laws.specs.declared.view.Opening.{Opening}
+use Rattle.cqs_rule_laws.specs.Alone.{IsAlone, TellsAlone}
+use Rattle.cqs_rule_laws.specs.Hidden.{state_in}
 use Rattle.cqs_semaphore_client.specs.Semaphore.{core_shown}
 use Rattle.cqs_semaphore_client.specs.SemaphorePermits.{permits_of}
 use Rattle.cqs_rule.specs.Waits.{place_of}

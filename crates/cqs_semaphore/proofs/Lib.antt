@@ -1,12 +1,9 @@
 pub mod Values
-pub mod Rules
-pub mod Courses
 pub mod States
 pub mod AcquireSteps
 pub mod TrySteps
 pub mod ResumeSteps
 pub mod ReleaseSteps
-pub mod PollSteps
 pub mod CancelSteps
 pub mod AloneSteps
 pub mod Between

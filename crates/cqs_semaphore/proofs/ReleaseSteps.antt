@@ -4,31 +4,34 @@ use Rattle.cqs_core.specs.declared.doings.Doing.TheVariants as doing
 use Rattle.cqs_core.specs.declared.entries.Entry.{Entry}
 use Rattle.cqs_core.specs.declared.entries.Entry.TheVariants as entry
 use Rattle.cqs_core.specs.SemaphoreEntries.{IsLegal}
-use Rattle.cqs_views.specs.declared.view.Facts.{Facts}
-use Rattle.cqs_views.specs.declared.view.Sighting.TheVariants.{Word}
-use Rattle.cqs_views.specs.declared.view.View.{View}
-use Rattle.cqs_views.specs.Called.{Called}
-use Rattle.cqs_views.specs.Events.{in_any_case}
-use Rattle.cqs_views.specs.Facts.{is_owing}
-use Rattle.cqs_views.specs.Layout.{client_place}
-use Rattle.cqs_views.specs.Lists.{Has}
-use Rattle.cqs_views.specs.Saw.{Saw}
+use Rattle.cqs_core.specs.SemaphoreNames.{entry_names}
+use Rattle.cqs_rule_laws.specs.declared.view.Facts.{Facts}
+use Rattle.cqs_rule_laws.specs.declared.view.Sighting.TheVariants.{Word}
+use Rattle.cqs_rule_laws.specs.declared.view.View.{View}
+use Rattle.cqs_rule_laws.specs.Called.{Called}
+use Rattle.cqs_rule_laws.specs.CallRule.{IsReady}
+use Rattle.cqs_rule_laws.specs.Events.{in_any_case}
+use Rattle.cqs_rule_laws.specs.Facts.{is_owing}
+use Rattle.cqs_rule_laws.specs.Layout.{client_place}
+use Rattle.cqs_rule_laws.specs.Lists.{Has}
+use Rattle.cqs_rule_laws.specs.Saw.{Saw}
 use Rattle.cqs_semaphore_client.specs.Semaphore.{semaphore_object, gives_one}
 use Rattle.cqs_semaphore_client.specs.SemaphoreSteps.{OnState}
-use Rattle.cqs_views.proofs.Calls.{called-by, called-and}
+use Rattle.cqs_rule_laws.proofs.Calls.{called-by, called-and}
+use Rattle.cqs_rule_laws.proofs.Prefixes.{prefix-same}
+use Rattle.cqs_rule_laws.proofs.Rules.{NoneName, call-rule}
 use Rattle.cqs_resume.specs.declared.resumed.Resumed.{Resumed}
 use Rattle.cqs_resume.specs.declared.resumed.Resumed.TheVariants as resumed
 use Rattle.cqs_words.specs.State.{count_in, is_below_zero}
 use Rattle.cqs_semaphore.specs.declared.answers.Released.{Released}
 use Rattle.cqs_semaphore.specs.declared.answers.Released.TheVariants.{Freed, Sent, Left, Void, Under}
 use Rattle.cqs_semaphore.specs.Answers.{Ends, Releases, WasUnwanted, WasWanted}
-use Rattle.cqs_semaphore.specs.Calls.{IsReady, CallRule}
+use Rattle.cqs_semaphore.specs.Calls.{CallRule}
 use Rattle.cqs_semaphore.specs.Causes.{StateWas, state_after}
 use Rattle.cqs_semaphore.specs.Entries.{gave_entries, resumed_further}
 use Rattle.cqs_semaphore.specs.Steps.{as_released, HasEnded}
 use Rattle.cqs_semaphore.proofs.ResumeSteps.{ends-so, ends-called}
-use Rattle.cqs_semaphore.proofs.Rules.{NoneName, call-rule}
-use Rattle.cqs_semaphore.proofs.States.{prefix-same, state-was, state-later, count-below, count-not_below}
+use Rattle.cqs_semaphore.proofs.States.{state-was, state-later, count-below, count-not_below}
 
 abbrev pub given_by : Bool → ℕ → List Entry
 given_by b p = if b then entry.GiveSent p ∷ [] else entry.GiveFreed p ∷ []
@@ -43,7 +46,7 @@ facts_gave b n f = record f {
 }
 
 -- a delivery names nobody
-pub further-names : (r : Released) → NoneName (resumed_further r)
+pub further-names : (r : Released) → NoneName entry_names (resumed_further r)
 further-names Freed = tt
 further-names (Sent k) = (λ n. refl, tt)
 further-names (Left k) = tt
@@ -153,7 +156,7 @@ module _ {T : Type 0} where
       let r = as_released e.0 in
       subst (λ z. CallRule v (gave_entries v.number z) (resumed_further z) w) (sym e.1)
       (subst (λ es. CallRule v es (resumed_further r) w) (sent-entries v.number e.0)
-      (call-rule v w (entry.GiveSent v.number ∷ []) (resumed_further r)
+      (call-rule semaphore_object v w (entry.GiveSent v.number ∷ []) (resumed_further r)
       (called-and semaphore_object v u w _ _ _ _ (gave-called true v u n g)
       (ends-called u w ticket payload e.0 e.2).0)
       (λ n. refl, tt) (further-names r) own legal))
@@ -164,7 +167,8 @@ module _ {T : Type 0} where
   ends-rule v w ticket payload a e own legal =
       let r = as_released e.0 in
       subst (λ z. CallRule v [] (resumed_further z) w) (sym e.1)
-      (call-rule v w [] (resumed_further r) (ends-called v w ticket payload e.0 e.2).0 tt (further-names r) own legal)
+      (call-rule semaphore_object v w [] (resumed_further r) (ends-called v w ticket payload e.0 e.2).0 tt
+      (further-names r) own legal)
 
   pub ends-by : (v w : View Entry T) (ticket : Option ℕ) (payload : ℕ) (a : Released) → v.facts.has.further ≡ 0
       → HasEnded ticket payload v a w → Ends v v.facts.has.held v.facts.waits a w

@@ -12,31 +12,22 @@ use Rattle.cqs_core.specs.declared.entries.Entry.TheVariants as entry
 use Rattle.cqs_core.specs.SemaphoreEntries.{object_after, after_entry, turned_back}
 use Rattle.cqs_core.specs.SemaphoreObject.{Semaphore, due, opening}
 use Rattle.cqs_core.specs.SemaphoreShown.{state_of}
-use Rattle.cqs_views.specs.declared.view.Facts.{Facts}
-use Rattle.cqs_views.specs.declared.view.Opening.{Opening}
-use Rattle.cqs_views.specs.declared.view.Sighting.{Sighting}
-use Rattle.cqs_views.specs.declared.view.Sighting.TheVariants.{Word}
-use Rattle.cqs_views.specs.declared.view.View.{View}
-use Rattle.cqs_views.specs.Called.{Called}
-use Rattle.cqs_views.specs.Events.{in_any_case}
-use Rattle.cqs_views.specs.Layout.{client_place}
-use Rattle.cqs_views.specs.Lists.{IsPrefix}
-use Rattle.cqs_views.specs.Saw.{Saw}
-use Rattle.cqs_views.specs.Silent.{silent}
+use Rattle.cqs_rule_laws.specs.declared.view.Facts.{Facts}
+use Rattle.cqs_rule_laws.specs.declared.view.Opening.{Opening}
+use Rattle.cqs_rule_laws.specs.declared.view.Sighting.{Sighting}
+use Rattle.cqs_rule_laws.specs.declared.view.Sighting.TheVariants.{Word}
+use Rattle.cqs_rule_laws.specs.declared.view.View.{View}
+use Rattle.cqs_rule_laws.specs.Events.{in_any_case}
+use Rattle.cqs_rule_laws.specs.Layout.{client_place}
+use Rattle.cqs_rule_laws.specs.Lists.{IsPrefix}
+use Rattle.cqs_rule_laws.specs.Saw.{Saw}
+use Rattle.cqs_rule_laws.specs.Silent.{silent}
+use Rattle.cqs_rule_laws.proofs.Lists.{prefix-then}
+use Rattle.cqs_rule_laws.proofs.Prefixes.{saw-prefix}
 use Rattle.cqs_semaphore_client.specs.Semaphore.{semaphore_object}
 use Rattle.cqs_semaphore_client.specs.SemaphoreSteps.{NextIs, OnState}
 use Rattle.cqs_words.specs.State.{count_in, is_above_zero, is_below_zero}
-use Rattle.cqs_semaphore.specs.Causes.{is_enter, drawn_in, Counted, StateWas, state_after}
-
-module _ {A : Type 0} where
-  pub prefix-same : (l : List A) → IsPrefix l l
-  prefix-same l = ([], sym (append-nil l))
-
-  pub prefix-then : (a b c : List A) → IsPrefix a b → IsPrefix b c → IsPrefix a c
-  prefix-then a b c p q = (p.0 ++ q.0, q.1 ∙ (ap (λ l. l ++ q.0) p.1 ∙ append_assoc a p.0 q.0))
-
-pub prefix-more : {A : Type 0} (a b c d : List A) → IsPrefix a (((a ++ b) ++ c) ++ d)
-prefix-more a b c d = (b ++ (c ++ d), append_assoc (a ++ b) c d ∙ append_assoc a b (c ++ d))
+use Rattle.cqs_semaphore.specs.Causes.{is_enter, drawn_in, StateWas, FoundJust, state_after}
 
 -- an entry draws a number exactly where it is an Enter
 turned-next : (o : Semaphore) → (turned_back o).next ≡ o.next
@@ -90,26 +81,9 @@ pub count-same : (n m : ℕ) → count_in n ≡ count_in m → n ≡ m
 count-same n m is = grind (arith, ints)
 
 module _ {T : Type 0} where
-  pub saw-prefix : (v w : View Entry T) (f : Facts) (es : List Entry) → Saw semaphore_object v f es w
-      → IsPrefix v.seen w.seen
-  saw-prefix v w f es s = (s.between ++ es, s.seen ∙ append_assoc v.seen s.between es)
-
-  pub called-prefix : (v w : View Entry T) (es last : List Entry) → Called semaphore_object v es last w
-      → IsPrefix v.seen w.seen
-  called-prefix v w es last c = (c.more, c.seen)
-
-  -- the counter was loaded, and the call went on
-  pub counted : (v u w : View Entry T) (n : ℕ) → NextIs v n u → IsPrefix u.seen w.seen
-      → IsPrefix u.facts.found w.facts.found → Counted v n u.seen w
-  counted v u w n next seen found = record {
-    since = saw-prefix v u _ _ next.saw;
-    seen = seen;
-    drawn = sym (next-drawn u.opening.size u.seen) ∙ next.next;
-    found = prefix-then _ _ _ (prefix-of (ap (λ (f : Facts). f.found) next.saw.facts_are)) found;
-  }
-    where
-      prefix-of : {A : Type 0} {a b : List A} → b ≡ a → IsPrefix a b
-      prefix-of {A} {a} {b} e = subst (IsPrefix a) (sym e) (prefix-same a)
+  -- the counter was loaded: so many numbers were drawn by then
+  pub next-count : (v u : View Entry T) (n : ℕ) → NextIs v n u → drawn_in u.seen ≡ n
+  next-count v u n next = sym (next-drawn u.opening.size u.seen) ∙ next.next
 
   -- the state was found so, by a step from u to x, and the call had come to u and went on from x
   pub state-was : (v u x w : View Entry T) (f : Facts) (es before : List Entry) (n : ℕ) (earlier : List Sighting)
@@ -141,13 +115,22 @@ module _ {T : Type 0} where
   pub state-loaded : (v w : View Entry T) (n : ℕ) → OnState silent in_any_case v n w
       → StateWas v (state_after w w.seen) w.seen [] w
   state-loaded v w n o = record {
-    since = saw-prefix v w _ _ o.saw;
+    since = saw-prefix semaphore_object v w _ _ o.saw;
     seen = ([], sym (append-nil (w.seen ++ []) ∙ append-nil w.seen));
     state = refl;
     word = n;
     count_is = sym (o.state
         ∙ ap (λ l. state_of (object_after w.opening.size l)) (sym (append-nil o.before) ∙ sym o.seen));
     found = ([], [], ap (λ (f : Facts). f.found) o.saw.facts_are);
+  }
+
+  pub state-once : (v w : View Entry T) (n : ℕ) → OnState silent in_any_case v n w
+      → FoundJust (state_after w w.seen ∷ []) v w
+  state-once v w n o = record {
+    words = n ∷ [];
+    are = ap (λ z. z ∷ []) (sym (o.state
+        ∙ ap (λ l. state_of (object_after w.opening.size l)) (sym (append-nil o.before) ∙ sym o.seen)));
+    found = ap (λ (f : Facts). f.found) o.saw.facts_are;
   }
 
   -- what the state was stays so while the call goes on

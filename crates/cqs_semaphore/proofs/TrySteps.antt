@@ -7,22 +7,24 @@ use Rattle.cqs_core.specs.declared.entries.Entry.{Entry}
 use Rattle.cqs_core.specs.declared.entries.Entry.TheVariants as entry
 use Rattle.cqs_core.specs.SemaphoreEntries.{object_after}
 use Rattle.cqs_core.specs.SemaphoreShown.{state_of}
-use Rattle.cqs_views.specs.declared.view.Facts.{Facts}
-use Rattle.cqs_views.specs.declared.view.Sighting.TheVariants.{Word}
-use Rattle.cqs_views.specs.declared.view.View.{View}
-use Rattle.cqs_views.specs.Called.{Called}
-use Rattle.cqs_views.specs.Events.{in_any_case, where_found}
-use Rattle.cqs_views.specs.Facts.{is_owing}
-use Rattle.cqs_views.specs.Layout.{client_place}
-use Rattle.cqs_views.specs.Saw.{Saw}
+use Rattle.cqs_rule_laws.specs.declared.view.Facts.{Facts}
+use Rattle.cqs_rule_laws.specs.declared.view.Sighting.TheVariants.{Word}
+use Rattle.cqs_rule_laws.specs.declared.view.View.{View}
+use Rattle.cqs_rule_laws.specs.Called.{Called}
+use Rattle.cqs_rule_laws.specs.CallRule.{IsReady}
+use Rattle.cqs_rule_laws.specs.Events.{in_any_case, where_found}
+use Rattle.cqs_rule_laws.specs.Facts.{is_owing}
+use Rattle.cqs_rule_laws.specs.Layout.{client_place}
+use Rattle.cqs_rule_laws.specs.Saw.{Saw}
 use Rattle.cqs_semaphore_client.specs.Semaphore.{semaphore_object, loads_to_try, tries}
 use Rattle.cqs_semaphore_client.specs.SemaphoreSteps.{OnState}
-use Rattle.cqs_views.proofs.Calls.{called-by, called-then}
+use Rattle.cqs_rule_laws.proofs.Calls.{called-by, called-then}
+use Rattle.cqs_rule_laws.proofs.Prefixes.{prefix-same, saw-prefix}
 use Rattle.cqs_words.specs.State.{count_in, is_above_zero}
-use Rattle.cqs_semaphore.specs.Answers.{IsContended}
-use Rattle.cqs_semaphore.specs.Calls.{IsReady, Rests}
-use Rattle.cqs_semaphore.specs.Causes.{StateWas, state_after}
-use Rattle.cqs_semaphore.proofs.States.{prefix-same, saw-prefix, state-was, state-later, count-above, count-same}
+use Rattle.cqs_semaphore.specs.Answers.{IsContended, WasBusy, WasGot}
+use Rattle.cqs_semaphore.specs.Calls.{Rests}
+use Rattle.cqs_semaphore.specs.Causes.{StateWas, FoundJust, state_after}
+use Rattle.cqs_semaphore.proofs.States.{state-was, state-later, count-above, count-not_above, count-same}
 
 abbrev pub busy_by : Bool → ℕ → List Entry
 busy_by b p = if b then [] else entry.TryBusy p ∷ []
@@ -81,13 +83,13 @@ module _ {T : Type 0} where
       → Called semaphore_object v (entry.TryBusy v.number ∷ []) (entry.TryBusy v.number ∷ []) w
   busy-called v w n l = called-by semaphore_object v w _ _ l.saw
 
-  pub busy-found : (v w : View Entry T) (n : ℕ) (l : LoadedBy false n v w)
+  busy-found : (v w : View Entry T) (n : ℕ) (l : LoadedBy false n v w)
       → StateWas v (count_in n) l.before (entry.TryBusy v.number ∷ []) w
   busy-found v w n l =
       state-was v v w w _ _ l.before n [] (prefix-same v.seen) l.saw l.seen l.state
       (ap (λ (f : Facts). f.found) l.saw.facts_are) (prefix-same w.seen) refl (prefix-same w.facts.found)
 
-  pub busy-rests : (v w : View Entry T) (n : ℕ) → IsReady v.facts → LoadedBy false n v w
+  busy-rests : (v w : View Entry T) (n : ℕ) → IsReady v.facts → LoadedBy false n v w
       → Rests v v.facts.has.held v.facts.waits w
   busy-rests v w n r l = record {
     ready = record {
@@ -98,6 +100,23 @@ module _ {T : Type 0} where
     waits_are = ap (λ (f : Facts). f.waits) l.saw.facts_are;
   }
 
+  -- the call found nothing else
+  busy-steps : (v w : View Entry T) (n : ℕ) → LoadedBy false n v w → FoundJust (count_in n ∷ []) v w
+  busy-steps v w n l =
+      record { words = n ∷ []; are = refl; found = ap (λ (f : Facts). f.found) l.saw.facts_are }
+
+  pub was-busy : (v w : View Entry T) (n : ℕ) → is_above_zero n ≡ false → IsReady v.facts → LoadedBy false n v w
+      → WasBusy v w
+  was-busy v w n is r l = record {
+    count = count_in n;
+    before = l.before;
+    none = count-not_above n is;
+    found = busy-found v w n l;
+    last = l.seen;
+    steps = busy-steps v w n l;
+    rests = busy-rests v w n r l;
+  }
+
   -- one was, and the exchange was made, or it was not
   pub swap-called : (b : Bool) (v u w : View Entry T) (n m : ℕ) → LoadedBy true n v u → SwappedBy b m u w
       → Called semaphore_object v (got_by b v.number) (got_by b v.number) w
@@ -105,7 +124,7 @@ module _ {T : Type 0} where
       subst (λ p. Called semaphore_object v (got_by b p) (got_by b p) w) l.saw.same.number
       (called-then semaphore_object v u w _ [] [] (got_by b u.number) (called-by semaphore_object v u _ [] l.saw) s.saw)
 
-  pub swap-found : (b : Bool) (v u w : View Entry T) (n m : ℕ) (l : LoadedBy true n v u) (s : SwappedBy b m u w)
+  swap-found : (b : Bool) (v u w : View Entry T) (n m : ℕ) (l : LoadedBy true n v u) (s : SwappedBy b m u w)
       → StateWas v (count_in m) s.before (got_by b v.number) w
   swap-found b v u w n m l s =
       let found_u : u.facts.found ≡ v.facts.found ++ Word (client_place 0) n ∷ [] =
@@ -113,13 +132,13 @@ module _ {T : Type 0} where
       let found_w : w.facts.found ≡ u.facts.found ++ Word (client_place 0) m ∷ [] =
       ap (λ (f : Facts). f.found) s.saw.facts_are in
       subst (λ p. StateWas v (count_in m) s.before (got_by b p) w) l.saw.same.number
-      (state-was v u w w _ (got_by b u.number) s.before m (Word (client_place 0) n ∷ []) (saw-prefix v u _ _ l.saw)
-      s.saw s.seen
+      (state-was v u w w _ (got_by b u.number) s.before m (Word (client_place 0) n ∷ [])
+      (saw-prefix semaphore_object v u _ _ l.saw) s.saw s.seen
       s.state (found_w ∙ (ap (λ l. l ++ Word (client_place 0) m ∷ []) found_u
       ∙ append_assoc v.facts.found (Word (client_place 0) n ∷ []) (Word (client_place 0) m ∷ [])))
       (prefix-same w.seen) refl (prefix-same w.facts.found))
 
-  pub swap-rests : (b : Bool) (v u w : View Entry T) (n m : ℕ) → IsReady v.facts → LoadedBy true n v u
+  swap-rests : (b : Bool) (v u w : View Entry T) (n m : ℕ) → IsReady v.facts → LoadedBy true n v u
       → SwappedBy b m u w
       → Rests v (if b then v.facts.has.held + 1 else v.facts.has.held) v.facts.waits w
   swap-rests b v u w n m r l s =
@@ -135,6 +154,28 @@ module _ {T : Type 0} where
         waits_are = ap (λ (f : Facts). f.waits) now ∙ ap (λ (f : Facts). f.waits) was;
       }
 
+  swap-steps : (b : Bool) (v u w : View Entry T) (n m : ℕ) → LoadedBy true n v u → SwappedBy b m u w
+      → FoundJust (count_in n ∷ count_in m ∷ []) v w
+  swap-steps b v u w n m l s = record {
+    words = n ∷ m ∷ [];
+    are = refl;
+    found = ap (λ (f : Facts). f.found) s.saw.facts_are
+        ∙ (ap (λ (f : Facts). f.found ++ Word (client_place 0) m ∷ []) l.saw.facts_are
+        ∙ append_assoc v.facts.found (Word (client_place 0) n ∷ []) (Word (client_place 0) m ∷ []));
+  }
+
+  pub was-got : (v u w : View Entry T) (n m : ℕ) → is_above_zero n ≡ true → m ≡ n → IsReady v.facts
+      → LoadedBy true n v u → SwappedBy true m u w → WasGot v w
+  was-got v u w n m above is r l s = record {
+    count = count_in m;
+    before = s.before;
+    free = count-above m (ap is_above_zero is ∙ above);
+    found = swap-found true v u w n m l s;
+    last = subst (λ p. w.seen ≡ s.before ++ got_by true p) l.saw.same.number s.seen;
+    steps = subst (λ k. FoundJust (count_in k ∷ count_in m ∷ []) v w) (sym is) (swap-steps true v u w n m l s);
+    rests = swap-rests true v u w n m r l s;
+  }
+
   -- others were first: a pass that is alone has none beside it
   never-alone : (v u w : View Entry T) (n m : ℕ) → m ≢ n → LoadedBy true n v u → SwappedBy false m u w → v.alone ≢ true
   never-alone v u w n m other l s = λ alone.
@@ -149,9 +190,9 @@ module _ {T : Type 0} where
       (object_after (sym s.saw.same.opening i).size s.before)) ∙ sym s.state)) in
       other (sym (count-same n m states))
 
-  pub contended : (v u w : View Entry T) (n m : ℕ) → is_above_zero n ≡ true → m ≢ n → LoadedBy true n v u
-      → SwappedBy false m u w → IsContended v (count_in n) (count_in m) w
-  contended v u w n m above other l s =
+  pub contended : (v u w : View Entry T) (n m : ℕ) → is_above_zero n ≡ true → m ≢ n → IsReady v.facts
+      → LoadedBy true n v u → SwappedBy false m u w → IsContended v (count_in n) (count_in m) w
+  contended v u w n m above other r l s =
       let found_u : u.facts.found ≡ v.facts.found ++ Word (client_place 0) n ∷ [] =
       ap (λ (f : Facts). f.found) l.saw.facts_are in
       let found_w : w.facts.found ≡ u.facts.found ++ Word (client_place 0) m ∷ [] =
@@ -164,8 +205,10 @@ module _ {T : Type 0} where
             (state-was v v u u _ [] l.before n [] (prefix-same v.seen) l.saw l.seen l.state found_u (prefix-same u.seen)
             refl
             (prefix-same u.facts.found))
-            (saw-prefix u w _ _ s.saw) (Word (client_place 0) m ∷ [], found_w) s.saw.same.opening;
+            (saw-prefix semaphore_object u w _ _ s.saw) (Word (client_place 0) m ∷ [], found_w) s.saw.same.opening;
         exchanged = subst (λ h. StateWas v (count_in m) h [] w) at_swap (swap-found false v u w n m l s);
         differ = λ same. other (sym (count-same n m same));
         together = never-alone v u w n m other l s;
+        steps = swap-steps false v u w n m l s;
+        rests = swap-rests false v u w n m r l s;
       }

@@ -1,11 +1,11 @@
 -- The value that a release hands in.
-use Rattle.std.proofs.Common.{◌≡◌, ◌∙◌, Bool, true, false, List, [], ◌∷◌, ◌++◌, ap, sym, Some, None}
+use Rattle.std.proofs.Common.{◌∙◌, Bool, true, false, [], ◌++◌, ap, sym}
 use Rattle.std.proofs.lemmas.List.{append-nil}
 use Rattle.cqs_core.specs.declared.entries.Entry.{Entry}
-use Rattle.cqs_views.specs.declared.view.View.{View}
-use Rattle.cqs_views.specs.Lists.{IsPrefix}
+use Rattle.cqs_rule_laws.specs.declared.view.View.{View}
+use Rattle.cqs_rule_laws.specs.Lists.{IsPrefix}
 use Rattle.cqs_semaphore_client.specs.SemaphoreSlots.{GivesValue, GaveValue}
-use Rattle.cqs_views.specs.Slots.{laid_in, LaysNone}
+use Rattle.cqs_rule_laws.specs.Slots.{LaysNone}
 
 module _ {T : Type 0} where
   -- it is still handed in after more was seen

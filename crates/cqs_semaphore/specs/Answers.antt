@@ -1,15 +1,14 @@
 -- What each call answers, and why.
-use Rattle.std.specs.Prelude.{◌≡◌, ◌≢◌, ◌⊎◌, ℕ, ◌+◌, ◌-◌, ◌<◌, ◌≤◌, true, List, [], ◌∷◌, ◌++◌, Option, Some, None, ℤ, pos, ◌<ℤ◌, ◌≤ℤ◌}
+use Rattle.std.specs.Prelude.{◌≡◌, ◌≢◌, ◌⊎◌, ℕ, ◌+◌, ◌-◌, true, List, [], ◌∷◌, ◌++◌, Option, Some, None, ℤ, pos, ◌<ℤ◌, ◌≤ℤ◌}
 use Rattle.cqs_core.specs.declared.cells.CoreState.TheVariants as state
 use Rattle.cqs_core.specs.declared.entries.Entry.{Entry}
 use Rattle.cqs_core.specs.declared.entries.Entry.TheVariants as entry
 use Rattle.cqs_rule.specs.declared.queue.tokens.Under as token
 use Rattle.cqs_rule.specs.declared.queue.tokens.Wait.{Wait}
-use Rattle.cqs_views.specs.declared.view.Facts.{Facts}
-use Rattle.cqs_views.specs.declared.view.Sighting.TheVariants.{Word}
-use Rattle.cqs_views.specs.declared.view.View.{View}
-use Rattle.cqs_views.specs.Layout.{suspends_place}
-use Rattle.cqs_views.specs.Lists.{without}
+use Rattle.cqs_rule_laws.specs.declared.view.View.{View}
+use Rattle.cqs_rule_laws.specs.Causes as laws
+use Rattle.cqs_rule_laws.specs.Causes.{PassedOver}
+use Rattle.cqs_rule_laws.specs.Lists.{without}
 use Rattle.cqs_rule.specs.Owed.{HasUnder}
 use Rattle.cqs_rule.specs.Waits.{place_of, HasWait}
 use Rattle.cqs_semaphore.specs.declared.answers.Acquired.{Acquired}
@@ -23,7 +22,7 @@ use Rattle.cqs_semaphore.specs.declared.answers.Polled.TheVariants.{Granted, Pen
 use Rattle.cqs_semaphore.specs.declared.answers.CancelAnswer.{CancelAnswer}
 use Rattle.cqs_semaphore.specs.declared.answers.CancelAnswer.TheVariants.{Cancelled, TooLate}
 use Rattle.cqs_semaphore.specs.Calls.{Rests}
-use Rattle.cqs_semaphore.specs.Causes.{Counted, StateWas, CellWas, CellWasOnce, PassedOver}
+use Rattle.cqs_semaphore.specs.Causes.{drawn_in, StateWas, FoundJust, CellWas, CellWasOnce}
 use Rattle.cqs_semaphore.specs.Owed.{owed_after}
 use Rattle.cqs_semaphore.specs.Permits.{number_of}
 
@@ -31,25 +30,13 @@ use Rattle.cqs_semaphore.specs.Permits.{number_of}
 abbrev pub most_passed_over : ℕ
 most_passed_over = 64
 
--- a pass at these facts that loaded the suspend counter as n, and did nothing else
-abbrev pub facts_refused : ℕ → Facts → Facts
-facts_refused n f = record f { found = f.found ++ Word suspends_place n ∷ [] }
-
 module _ {T : Type 0} where
-  -- An acquire was refused: it loaded the suspend counter, and this was at the limit or above. So
-  -- many numbers had been drawn in all that the pass has seen now. Nothing else was touched.
-  pub record IsWorn (v w : View Entry T) : Type 0 where
-    pub loaded : ℕ
-    pub worn : v.limit ≤ loaded
-    pub counted : Counted v loaded w.seen w
-    pub facts_are : w.facts ≡ facts_refused loaded v.facts
+  -- An acquire was refused, as the limit was reached; or it wasn't.
+  abbrev pub IsWorn : View Entry T → View Entry T → Type 0
+  IsWorn v w = laws.IsWorn drawn_in v w
 
-  -- one that wasn't had loaded it below the limit
-  pub record IsBelow (v w : View Entry T) : Type 0 where
-    pub loaded : ℕ
-    pub before : List Entry
-    pub below : loaded < v.limit
-    pub counted : Counted v loaded before w
+  abbrev pub IsBelow : View Entry T → View Entry T → Type 0
+  IsBelow v w = laws.IsBelow drawn_in v w
 
   -- The state was found above 0, and the permit taken by that step.
   pub record WasFree (v w : View Entry T) : Type 0 where
@@ -81,9 +68,30 @@ module _ {T : Type 0} where
       WasNone v w × CellWas state.Empty (place_of wait).index [] w × HasWait w wait
       × Rests v v.facts.has.held (v.facts.waits ++ (place_of wait).index ∷ []) w
 
-  -- Another caller was first: the state was loaded as one count, above 0, and found as another by
-  -- the exchange. The first was the plain semaphore's after some of what the pass has seen, not
-  -- less than it had seen before; the second is its state now.
+  -- A try made one load of the state, which found it at most 0.
+  pub record WasBusy (v w : View Entry T) : Type 0 where
+    pub count : ℤ
+    pub before : List Entry
+    pub none : count ≤ℤ pos 0
+    pub found : StateWas v count before (entry.TryBusy v.number ∷ []) w
+    pub last : w.seen ≡ before ++ entry.TryBusy v.number ∷ []
+    pub steps : FoundJust (count ∷ []) v w
+    pub rests : Rests v v.facts.has.held v.facts.waits w
+
+  -- It made a load of the state, and one exchange. Both found the same, above 0, and the exchange
+  -- took the permit.
+  pub record WasGot (v w : View Entry T) : Type 0 where
+    pub count : ℤ
+    pub before : List Entry
+    pub free : pos 0 <ℤ count
+    pub found : StateWas v count before (entry.TryGot v.number ∷ []) w
+    pub last : w.seen ≡ before ++ entry.TryGot v.number ∷ []
+    pub steps : FoundJust (count ∷ count ∷ []) v w
+    pub rests : Rests v (v.facts.has.held + 1) v.facts.waits w
+
+  -- Another caller was first: the load found one count, above 0, and the one exchange another. The
+  -- first was the plain semaphore's after some of what the pass has seen, not less than it had seen
+  -- before; the second is its state now.
   pub record IsContended (v : View Entry T) (saw found : ℤ) (w : View Entry T) : Type 0 where
     pub before : List Entry
     pub free : pos 0 <ℤ saw
@@ -91,18 +99,13 @@ module _ {T : Type 0} where
     pub exchanged : StateWas v found w.seen [] w
     pub differ : saw ≢ found
     pub together : v.alone ≢ true
+    pub steps : FoundJust (saw ∷ found ∷ []) v w
+    pub rests : Rests v v.facts.has.held v.facts.waits w
 
   abbrev pub Tries : View Entry T → Tried → View Entry T → Type 0
-  Tries v (Got permit) w =
-      (count : ℤ) × (before : List Entry) × (pos 0 <ℤ count)
-      × StateWas v count before (entry.TryGot v.number ∷ []) w
-      × (number_of permit ≡ None) × Rests v (v.facts.has.held + 1) v.facts.waits w
-  Tries v Busy w =
-      (count : ℤ) × (before : List Entry) × (count ≤ℤ pos 0)
-      × StateWas v count before (entry.TryBusy v.number ∷ []) w
-      × Rests v v.facts.has.held v.facts.waits w
-  Tries v (Contended saw found) w =
-      IsContended v saw found w × Rests v v.facts.has.held v.facts.waits w
+  Tries v (Got permit) w = (number_of permit ≡ None) × WasGot v w
+  Tries v Busy w = WasBusy v w
+  Tries v (Contended saw found) w = IsContended v saw found w
 
   -- the resumption that the pass owes was handed back, since so many numbers were passed over
   pub record HandsBack (v : View Entry T) (under : token.Under) (held : ℕ) (waits : List ℕ)

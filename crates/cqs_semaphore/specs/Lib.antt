@@ -2,8 +2,10 @@ pub mod Permits
 pub mod Owed
 pub mod Entries
 pub mod Calls
+pub mod Callers
 pub mod Causes
 pub mod Answers
 pub mod Alone
 pub mod Steps
 pub mod Seats
+pub mod Histories

@@ -5,7 +5,8 @@ ghost use Rattle.cqs_core.specs.declared.doings.Doing.TheVariants as doing;
 ghost use Rattle.cqs_rule.specs.Passes.{pass_view};
 ghost use Rattle.cqs_semaphore.specs.Alone.{IsPlainAcquire};
 ghost use Rattle.cqs_semaphore.specs.Answers.{IsWorn, IsBelow, Acquires};
-ghost use Rattle.cqs_semaphore.specs.Calls.{IsReady, IsMine, CallRule};
+ghost use Rattle.cqs_rule_laws.specs.CallRule.{IsReady};
+ghost use Rattle.cqs_semaphore.specs.Calls.{IsMine, CallRule};
 ghost use Rattle.cqs_semaphore.specs.Entries.{acquired_entries, acquired_further};
 ghost use Rattle.cqs_semaphore.specs.Steps.{WaitsInLine};
 

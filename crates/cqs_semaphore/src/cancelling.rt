@@ -2,12 +2,13 @@
 
 ghost use Rattle.std.specs.Prelude.{◌≡◌, true};
 ghost use Rattle.cqs_core.specs.declared.doings.Doing.TheVariants as doing;
-ghost use Rattle.cqs_views.specs.Crew.{IsBetween};
+ghost use Rattle.cqs_rule_laws.specs.Crew.{IsBetween};
 ghost use Rattle.cqs_rule.specs.Passes.{pass_view};
 ghost use Rattle.cqs_rule.specs.Waits.{place_of, HasWait};
 ghost use Rattle.cqs_semaphore.specs.Alone.{IsPlainCancel, HandsNone, HasNoneOnWay};
 ghost use Rattle.cqs_semaphore.specs.Answers.{Cancels};
-ghost use Rattle.cqs_semaphore.specs.Calls.{IsReady, IsMine, CallRule};
+ghost use Rattle.cqs_rule_laws.specs.CallRule.{IsReady};
+ghost use Rattle.cqs_semaphore.specs.Calls.{IsMine, CallRule};
 ghost use Rattle.cqs_semaphore.specs.Entries.{cancelled_entries, passed_further};
 ghost use Rattle.cqs_semaphore.specs.Steps.{HasCancelled, PassedOn};
 

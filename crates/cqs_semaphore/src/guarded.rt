@@ -2,7 +2,7 @@
 
 ghost use Rattle.std.specs.Prelude.{◌≡◌, [], ◌∷◌, true, false, IfOk, IsErrOf};
 ghost use mathlib.Core.Logic.{◌↔◌};
-ghost use Rattle.cqs_views.specs.Configured.{is_config};
+ghost use Rattle.cqs_rule_laws.specs.Configured.{is_config};
 ghost use Rattle.cqs_rule.specs.Passes.{pass_view, passes_of, limit_of};
 ghost use Rattle.cqs_semaphore.specs.Calls.{Rests, IsMine, permits_in};
 

@@ -28,6 +28,7 @@ mod acquiring;
 mod answers;
 mod cancelling;
 mod guarded;
+mod histories;
 mod polling;
 mod releasing;
 mod seats;
@@ -36,4 +37,5 @@ mod threads;
 mod trying;
 
 pub use answers::{Acquired, CancelAnswer, Permit, Polled, Released, Tried};
+pub use histories::calls_stand_in_one_history;
 pub use semaphore::{SemPass, Semaphore};

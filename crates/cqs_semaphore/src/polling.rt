@@ -5,7 +5,8 @@ ghost use Rattle.cqs_rule.specs.Passes.{pass_view};
 ghost use Rattle.cqs_rule.specs.Waits.{place_of, HasWait};
 ghost use Rattle.cqs_semaphore.specs.Alone.{IsPlainPoll};
 ghost use Rattle.cqs_semaphore.specs.Answers.{IsPolled};
-ghost use Rattle.cqs_semaphore.specs.Calls.{IsReady, IsMine, CallRule};
+ghost use Rattle.cqs_rule_laws.specs.CallRule.{IsReady};
+ghost use Rattle.cqs_semaphore.specs.Calls.{IsMine, CallRule};
 ghost use Rattle.cqs_semaphore.specs.Entries.{polled_entries};
 
 use crate::answers::{Permit, Polled};

@@ -3,12 +3,13 @@
 ghost use Rattle.std.specs.Prelude.{◌≡◌, ◌⊎◌, ◌<◌, ◌≤◌, [], ◌∷◌, true, false, IfOk, IsErrOf};
 ghost use mathlib.Core.Logic.{◌↔◌};
 ghost use Rattle.cqs_core.specs.SemaphoreShown.{state_of};
-ghost use Rattle.cqs_views.specs.Configured.{is_config};
+ghost use Rattle.cqs_rule_laws.specs.Configured.{is_config};
 ghost use Rattle.cqs_rule.specs.Passes.{pass_view, passes_of, limit_of};
-ghost use Rattle.cqs_views.specs.Views.{first_view};
-ghost use Rattle.cqs_views.specs.declared.config.CancelMode.TheVariants.{Smart};
-ghost use Rattle.cqs_semaphore.specs.Calls.{IsReady, Rests, IsMine, CallRule, permits_in, plain_after};
-ghost use Rattle.cqs_semaphore.specs.Causes.{StateWas};
+ghost use Rattle.cqs_rule_laws.specs.Views.{first_view};
+ghost use Rattle.cqs_rule_laws.specs.declared.config.CancelMode.TheVariants.{Smart};
+ghost use Rattle.cqs_rule_laws.specs.CallRule.{IsReady};
+ghost use Rattle.cqs_semaphore.specs.Calls.{Rests, IsMine, CallRule, permits_in, plain_after};
+ghost use Rattle.cqs_semaphore.specs.Causes.{FoundJust, StateWas};
 
 use cqs_rule::{CancelMode, Carries, Config, MakeError, Pass, Queue, Unparked};
 use cqs_semaphore_client::{SemClient, read_state};
@@ -94,6 +95,8 @@ impl<T: Carries + Send> Semaphore<T> {
         ensures state { result ≡ state_of (plain_after (pass_view pass.new)) }
         ensures was { StateWas (pass_view pass.old) (state_of (plain_after (pass_view pass.new)))
             (pass_view pass.new).seen [] (pass_view pass.new) }
+        ensures once { FoundJust (state_of (plain_after (pass_view pass.new)) ∷ [])
+            (pass_view pass.old) (pass_view pass.new) }
         ensures called { CallRule (pass_view pass.old) [] [] (pass_view pass.new) }
         ensures rests { Rests (pass_view pass.old) (pass_view pass.old).facts.has.held
             (pass_view pass.old).facts.waits (pass_view pass.new) }

@@ -1,3 +1,4 @@
 pub mod LowLine
+pub mod StateWords
 pub mod SemaphoreMoves
 pub mod StateFound

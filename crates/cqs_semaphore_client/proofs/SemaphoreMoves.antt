@@ -1,11 +1,9 @@
 -- What a semaphore's acquire, try, release and cancel owe for their steps on the state: each is an event of the core,
 -- by the law of the core.
-use Rattle.std.proofs.Common.{◌≡◌, ◌≢◌, ℕ, ◌+◌, ◌-◌, ◌<◌, ◌≤◌, ◌^◌, Bool, true, false, List, [], ◌∷◌, ◌++◌, length, set, refl, ap, sym, ◌∙◌, subst, inr, ⊎_elim, arith, Option, Some, None, slice_get, slice_index, slice_set, get_or, nat_lt, lt-ltb, le-ltb, ne_eqb, ◌==◌, ℤ, pos, negsuc, ◌-ℤ◌, ◌+ℤ◌, ◌<ℤ◌, int_lt, int_le, if◌then◌else◌}
-use Rattle.std.proofs.lemmas.Bool.{cases_lt, cases_eq, cases_Bool, eq-eqb}
-use Rattle.std.proofs.lemmas.Bool.Decides.{Decides-int_eq}
+use Rattle.std.proofs.Common.{◌≡◌, ◌≢◌, ℕ, ◌+◌, ◌-◌, ◌<◌, ◌≤◌, ◌^◌, Bool, true, false, List, [], ◌∷◌, ◌++◌, length, set, refl, ap, sym, ◌∙◌, subst, inr, ⊎_elim, arith, Option, Some, None, slice_get, slice_index, slice_set, get_or, nat_lt, lt-ltb, le-ltb, ne_eqb, ◌==◌, ℤ, pos, negsuc, ◌-ℤ◌, ◌+ℤ◌, ◌<ℤ◌, if◌then◌else◌}
+use Rattle.std.proofs.lemmas.Bool.{cases_lt, cases_eq, eq-eqb}
 use Rattle.std.proofs.lemmas.Int.{ints}
 use Rattle.std.proofs.lemmas.List.{append-nil}
-use Rattle.std.specs.Ordering.{int_eq}
 use Rattle.std.proofs.lemmas.List.{set-get_or}
 use prog.Atomic.{either}
 use Rattle.cqs_core.specs.declared.doings.Doing.{Doing}
@@ -21,82 +19,26 @@ use Rattle.cqs_core.specs.SemaphoreShown.{IsCore, free_of}
 use Rattle.cqs_core.proofs.StepKeeps.{row-core}
 use Rattle.cqs_core.proofs.Bounds.{free-small}
 use Rattle.cqs_core.proofs.Places.{set-same}
-use Rattle.cqs_views.specs.declared.view.Facts.{Facts}
-use Rattle.cqs_views.specs.declared.view.Has.{Has}
-use Rattle.cqs_views.specs.Events.{Event as Shows, Moves, SlotsStay, IsShort, word_plus, word_after_exchange, in_any_case, where_found}
-use Rattle.cqs_views.specs.Facts.{is_owing}
-use Rattle.cqs_views.specs.Hidden.{Hidden, stands_at}
-use Rattle.cqs_views.specs.Lists.{NamesOnly}
-use Rattle.cqs_views.specs.declared.view.View.{View}
-use Rattle.cqs_views.specs.Carried.{slots_when}
+use Rattle.cqs_rule_laws.specs.declared.view.Facts.{Facts}
+use Rattle.cqs_rule_laws.specs.declared.view.Has.{Has}
+use Rattle.cqs_rule_laws.specs.Events.{Event as Shows, Moves, SlotsStay, IsShort, word_plus, word_after_exchange, in_any_case, where_found}
+use Rattle.cqs_rule_laws.specs.Facts.{is_owing}
+use Rattle.cqs_rule_laws.specs.Hidden.{Hidden, stands_at}
+use Rattle.cqs_rule_laws.specs.Lists.{NamesOnly}
+use Rattle.cqs_rule_laws.specs.declared.view.View.{View}
+use Rattle.cqs_rule_laws.specs.Carried.{slots_when}
 use Rattle.cqs_semaphore_client.specs.SemaphoreSlots.{IsFull, GivesValue}
-use Rattle.cqs_views.specs.Slots.{laid_in, taken_off}
-use Rattle.cqs_views.specs.SlotSteps.{GivesAway, HandedIn}
-use Rattle.cqs_views.proofs.Handing.{off-here}
+use Rattle.cqs_rule_laws.specs.Slots.{laid_in, taken_off}
+use Rattle.cqs_rule_laws.specs.SlotSteps.{GivesAway, HandedIn}
+use Rattle.cqs_rule_laws.proofs.Handing.{off-here}
 use Rattle.cqs_semaphore_client.specs.Semaphore.{core_shown, semaphore_object, semaphore_primitive, takes_one, loads_to_try, tries, gives_one, decides}
-use Rattle.cqs_views.specs.Ruled.{number_at}
+use Rattle.cqs_rule_laws.specs.Ruled.{number_at}
 use Rattle.cqs_core.specs.SemaphoreNames.{entry_names}
-use Rattle.cqs_views.specs.Held.{held_of}
-use Rattle.cqs_views.proofs.Held.{held-is, held-set, held-kept}
+use Rattle.cqs_rule_laws.specs.Held.{held_of}
+use Rattle.cqs_rule_laws.proofs.Held.{held-is, held-set, held-kept}
 use Rattle.cqs_semaphore_client.proofs.LowLine.{state-above-line}
 use Rattle.cqs_words.specs.State.{count_in, is_above_zero, is_below_zero}
-
--- what the tests of the word say of the state
-state-free : (n : ℕ) → 4294967296 < n → int_lt (pos 0) (count_in n) ≡ true
-state-free n above = grind (arith, ints)
-
-state-none : (n : ℕ) → n ≤ 4294967296 → int_lt (pos 0) (count_in n) ≡ false
-state-none n below = grind (arith, ints)
-
-state-short : (n : ℕ) → n < 4294967296 → int_lt (count_in n) (pos 0) ≡ true
-state-short n below = grind (arith, ints)
-
-state-enough : (n : ℕ) → 4294967296 ≤ n → int_lt (count_in n) (pos 0) ≡ false
-state-enough n above = grind (arith, ints)
-
-state-some : (n : ℕ) → 4294967296 < n → int_le (count_in n) (pos 0) ≡ false
-state-some n above = grind (arith, ints)
-
-state-busy : (n : ℕ) → n ≤ 4294967296 → int_le (count_in n) (pos 0) ≡ true
-state-busy n below = grind (arith, ints)
-
-loaded-free : (n : ℕ) → pos 0 <ℤ count_in n → 4294967296 < n
-loaded-free n above = grind (arith, ints)
-
--- whether the word is the one that was loaded shows in the state
-same-word : (n saw : ℕ) → count_in n ≡ count_in saw → n ≡ saw
-same-word n saw same = grind (arith, ints)
-
-found-loaded : (n saw : ℕ) → n ≡ saw → int_eq (count_in n) (count_in saw) ≡ true
-found-loaded n saw same = (Decides-int_eq (count_in n) (count_in saw)).1 (ap count_in same)
-
-found-other : (n saw : ℕ) → n ≢ saw → int_eq (count_in n) (count_in saw) ≡ false
-found-other n saw other = ⊎_elim
-    (λ (same : int_eq (count_in n) (count_in saw) ≡ true).
-    absurd (other (same-word n saw ((Decides-int_eq (count_in n) (count_in saw)).0 same))))
-    (λ differs. differs)
-    (cases_Bool (int_eq (count_in n) (count_in saw)))
-
--- the word is above 0 where the state is above the lowest
-word-above : (n : ℕ) → lowest <ℤ count_in n → 1 < n
-word-above n above = grind (arith, ints)
-
-state-less : (n : ℕ) → 0 < n → count_in (n - 1) ≡ count_in n -ℤ pos 1
-state-less n some = grind (arith, ints)
-
-state-more : (n : ℕ) → count_in (n + 1) ≡ count_in n +ℤ pos 1
-state-more n = grind (arith, ints)
-
-above-lowest : (z : ℤ) → lowest <ℤ z → int_lt lowest z ≡ true
-above-lowest z above = grind (arith, ints)
-
-some-word : (words : List ℕ) → 0 < slice_index words 0 → 0 < length words
-some-word [] some = some
-some-word (w ∷ words) some = omega arith
-
-written : (words : List ℕ) (x : ℕ) → 0 < length words → slice_index (slice_set words 0 x) 0 ≡ x
-written [] x some = absurd (omega arith)
-written (w ∷ words) x some = refl
+use Rattle.cqs_semaphore_client.proofs.StateWords.{above-lowest, found-loaded, found-other, loaded-free, some-word, state-busy, state-enough, state-free, state-less, state-more, state-none, state-short, state-some, word-above, written}
 
 module _ (permits p : ℕ) (facts : Facts) (c : Hidden) (words : List ℕ) (log : List Entry)
     (core : IsCore (core_shown permits c words log))

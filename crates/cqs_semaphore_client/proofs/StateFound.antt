@@ -9,13 +9,13 @@ use Rattle.cqs_core.specs.SemaphoreShown.{state_of}
 use Rattle.cqs_core.specs.SemaphoreTable.{lowest}
 use Rattle.cqs_core.proofs.CoreFacts.{shows-object, state-few}
 use Rattle.cqs_semaphore_client.specs.declared.semaphore.SemClient.{SemClient}
-use Rattle.cqs_views.specs.declared.view.View.{View}
-use Rattle.cqs_views.specs.declared.view.Opening.{Opening}
-use Rattle.cqs_views.specs.Events.{Event, Moved, HasWord}
-use Rattle.cqs_views.specs.Layout.{client_place}
-use Rattle.cqs_views.specs.Loads.{CountLoaded}
-use Rattle.cqs_views.specs.Object.{Primitive}
-use Rattle.cqs_views.specs.Saw.{WasShown}
+use Rattle.cqs_rule_laws.specs.declared.view.View.{View}
+use Rattle.cqs_rule_laws.specs.declared.view.Opening.{Opening}
+use Rattle.cqs_rule_laws.specs.Events.{Event, Moved, HasWord}
+use Rattle.cqs_rule_laws.specs.Layout.{client_place}
+use Rattle.cqs_rule_laws.specs.Loads.{CountLoaded}
+use Rattle.cqs_rule_laws.specs.Object.{Primitive}
+use Rattle.cqs_rule_laws.specs.Saw.{WasShown}
 use Rattle.cqs_semaphore_client.specs.Semaphore.{core_shown, semaphore_object, semaphore_primitive}
 use Rattle.cqs_semaphore_client.specs.SemaphorePermits.{permits_of}
 use Rattle.cqs_semaphore_client.specs.SemaphoreSteps.{OnState, NextIs}

@@ -9,15 +9,15 @@ use Rattle.cqs_core.specs.SemaphoreTable.{Shape}
 use Rattle.cqs_core.specs.SemaphoreNames.{entry_names}
 use Rattle.cqs_core.specs.SemaphoreShown.{IsCore}
 use Rattle.cqs_core.specs.SemaphoreSteps.{step_entries}
-use Rattle.cqs_views.specs.declared.view.Has.{Has}
-use Rattle.cqs_views.specs.declared.config.CancelMode.TheVariants.{Smart}
-use Rattle.cqs_views.specs.Events.{Moment, Event}
-use Rattle.cqs_views.specs.Held.{held_of}
-use Rattle.cqs_views.specs.Hidden.{Hidden, Gains}
-use Rattle.cqs_views.specs.Manner.{Manner, asks, owed}
+use Rattle.cqs_rule_laws.specs.declared.view.Has.{Has}
+use Rattle.cqs_rule_laws.specs.declared.config.CancelMode.TheVariants.{Smart}
+use Rattle.cqs_rule_laws.specs.Events.{Moment, Event}
+use Rattle.cqs_rule_laws.specs.Held.{held_of}
+use Rattle.cqs_rule_laws.specs.Hidden.{Hidden, Gains}
+use Rattle.cqs_rule_laws.specs.Manner.{Manner, asks, owed}
 use Rattle.cqs_words.specs.State.{state_word, count_in, is_above_zero, is_below_zero}
-use Rattle.cqs_views.specs.Object.{Object, Primitive}
-use Rattle.cqs_views.specs.Ruled.{number_at}
+use Rattle.cqs_rule_laws.specs.Object.{Object, Primitive}
+use Rattle.cqs_rule_laws.specs.Ruled.{number_at}
 
 -- the core that the table of a semaphore shows
 abbrev pub core_shown : ℕ → Hidden → List ℕ → List Entry → Shape

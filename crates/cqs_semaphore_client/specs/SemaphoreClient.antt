@@ -23,16 +23,16 @@ use Rattle.cqs_core.proofs.OpenedCore.{opened-core, hand_over-core}
 use Rattle.cqs_core.proofs.Places.{get-below, get-set_else}
 use Rattle.cqs_core.proofs.Bounds.{reached-few, held-small}
 use Rattle.cqs_core.proofs.FirstOfWay.{ending-within}
-use Rattle.cqs_views.specs.declared.view.Has.{Has}
-use Rattle.cqs_views.specs.Client.{IsClient, KeepsSlots, IsBegun, begun_by, no_number}
-use Rattle.cqs_views.specs.Held.{held_of}
-use Rattle.cqs_views.proofs.Held.{held-at, held-is, held-set, held-kept}
-use Rattle.cqs_views.specs.Hidden.{Hidden, hidden_after, has_after, has_gained, has_paid, has_both, has_none, hands_over}
-use Rattle.cqs_views.specs.Lists.{NamesOnly}
-use Rattle.cqs_views.specs.Manner.{Suits}
-use Rattle.cqs_views.specs.Opened.{first_hidden, four}
+use Rattle.cqs_rule_laws.specs.declared.view.Has.{Has}
+use Rattle.cqs_rule_laws.specs.Client.{IsClient, KeepsSlots, IsBegun, begun_by, no_number}
+use Rattle.cqs_rule_laws.specs.Held.{held_of}
+use Rattle.cqs_rule_laws.proofs.Held.{held-at, held-is, held-set, held-kept}
+use Rattle.cqs_rule_laws.specs.Hidden.{Hidden, hidden_after, has_after, has_gained, has_paid, has_both, has_none, hands_over}
+use Rattle.cqs_rule_laws.specs.Lists.{NamesOnly}
+use Rattle.cqs_rule_laws.specs.Manner.{Suits}
+use Rattle.cqs_rule_laws.specs.Opened.{first_hidden, four}
 use Rattle.cqs_semaphore_client.specs.Semaphore.{core_shown, one_more, opens_one, semaphore_manner, semaphore_object, semaphore_primitive}
-use Rattle.cqs_views.specs.Views.{first_has}
+use Rattle.cqs_rule_laws.specs.Views.{first_has}
 use Rattle.cqs_words.specs.State.{state_word, count_in}
 
 silent-step : (s : QueueStep) (p k payload : ℕ) → NamesOnly entry_names p (step_entries s p k)

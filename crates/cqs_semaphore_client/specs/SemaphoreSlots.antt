@@ -1,8 +1,8 @@
 -- The value slot of a semaphore whose one permit carries a value.
 use Rattle.std.specs.Prelude.{◌≡◌, Bool, true, false, Some}
-use Rattle.cqs_views.specs.declared.view.View.{View}
-use Rattle.cqs_views.specs.Slots.{laid_in}
-use Rattle.cqs_views.specs.SlotSteps.{HandedIn, WasHandedIn}
+use Rattle.cqs_rule_laws.specs.declared.view.View.{View}
+use Rattle.cqs_rule_laws.specs.Slots.{laid_in}
+use Rattle.cqs_rule_laws.specs.SlotSteps.{HandedIn, WasHandedIn}
 
 -- the slot of the pass holds a value, where there is one
 abbrev pub IsFull : {E S : Type 0} → Bool → View E S → Type 0

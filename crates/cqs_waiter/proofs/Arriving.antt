@@ -1,6 +1,6 @@
 -- The calls of one who waits, one after the other.
 use Rattle.std.proofs.Common.{ℕ, zero, suc, Option, Some, None, Result, Ok, Err, refl, subst, inl, inr}
-use Rattle.cqs_views.specs.declared.config.AcquireError.{AcquireError}
+use Rattle.cqs_rule_laws.specs.declared.config.AcquireError.{AcquireError}
 use Rattle.cqs_waiter.specs.Arrivals.{WaiterCalls, LooksOn, Arrives, BeginsAtOnce, BeginsToWait, BeginsRefused, Pends, StillLooks}
 
 module _ {V W X : Type 0} (calls : WaiterCalls V W X) where

@@ -2,16 +2,16 @@
 use Rattle.std.proofs.Common.{ℕ, List, ◌∷◌, None, Result, Ok, Err, refl, sym, subst, inl}
 use Rattle.std.specs.Prelude.{IsErrOf}
 use Rattle.cqs_pool_object.specs.declared.entries.PoolEntry.{PoolEntry}
-use Rattle.cqs_views.specs.declared.config.AcquireError.{AcquireError}
-use Rattle.cqs_views.specs.declared.config.AcquireError.TheVariants.{Worn, Crowded}
-use Rattle.cqs_views.specs.declared.carries.Kept.{Kept}
-use Rattle.cqs_views.specs.declared.view.View.{View}
-use Rattle.cqs_views.specs.Lists.{Has}
+use Rattle.cqs_rule_laws.specs.declared.config.AcquireError.{AcquireError}
+use Rattle.cqs_rule_laws.specs.declared.config.AcquireError.TheVariants.{Worn, Crowded}
+use Rattle.cqs_rule_laws.specs.declared.carries.Kept.{Kept}
+use Rattle.cqs_rule_laws.specs.declared.view.View.{View}
+use Rattle.cqs_rule_laws.specs.Lists.{Has}
 use Rattle.cqs_pool.specs.Answers.{IsInHand}
 use Rattle.cqs_pool.specs.Calls.{Rests}
-use Rattle.cqs_value_pool.specs.declared.answers.ItemTaking.{ItemTaking}
-use Rattle.cqs_value_pool.specs.declared.answers.ItemTaking.TheVariants.{Took, Later}
-use Rattle.cqs_value_pool.specs.Calls.{HasTaken, TakenLeaves}
+use Rattle.cqs_pool_values.specs.declared.answers.ItemTaking.{ItemTaking}
+use Rattle.cqs_pool_values.specs.declared.answers.ItemTaking.TheVariants.{Took, Later}
+use Rattle.cqs_pool_values.specs.Calls.{HasTaken, TakenLeaves}
 use Rattle.cqs_waiter.specs.Takes.{ItemBegins}
 
 module _ {T : Type 0} where

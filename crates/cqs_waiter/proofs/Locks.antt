@@ -2,10 +2,10 @@
 use Rattle.std.proofs.Common.{None, Result, Ok, Err, refl}
 use Rattle.std.specs.Prelude.{IsErrOf}
 use Rattle.cqs_core.specs.declared.entries.Entry.{Entry}
-use Rattle.cqs_views.specs.declared.config.AcquireError.{AcquireError}
-use Rattle.cqs_views.specs.declared.config.AcquireError.TheVariants.{Worn, Crowded}
-use Rattle.cqs_views.specs.declared.carries.Kept.{Kept}
-use Rattle.cqs_views.specs.declared.view.View.{View}
+use Rattle.cqs_rule_laws.specs.declared.config.AcquireError.{AcquireError}
+use Rattle.cqs_rule_laws.specs.declared.config.AcquireError.TheVariants.{Worn, Crowded}
+use Rattle.cqs_rule_laws.specs.declared.carries.Kept.{Kept}
+use Rattle.cqs_rule_laws.specs.declared.view.View.{View}
 use Rattle.cqs_mutex.specs.declared.answers.Locked.{Locked}
 use Rattle.cqs_mutex.specs.declared.answers.Locked.TheVariants.{Now, Later}
 use Rattle.cqs_mutex.specs.Calls.{HasLocked, LockedHolds}

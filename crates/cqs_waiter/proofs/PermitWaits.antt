@@ -2,9 +2,9 @@
 use Rattle.std.proofs.Common.{◌≡◌, None, Result, Ok, Err, refl}
 use Rattle.std.specs.Prelude.{true, IfOk, IsErrOf, OnErr, OnOk}
 use Rattle.cqs_core.specs.declared.entries.Entry.{Entry}
-use Rattle.cqs_views.specs.declared.config.AcquireError.{AcquireError}
-use Rattle.cqs_views.specs.declared.config.AcquireError.TheVariants.{Worn, Crowded}
-use Rattle.cqs_views.specs.declared.view.View.{View}
+use Rattle.cqs_rule_laws.specs.declared.config.AcquireError.{AcquireError}
+use Rattle.cqs_rule_laws.specs.declared.config.AcquireError.TheVariants.{Worn, Crowded}
+use Rattle.cqs_rule_laws.specs.declared.view.View.{View}
 use Rattle.cqs_semaphore.specs.declared.answers.Acquired.{Acquired}
 use Rattle.cqs_semaphore.specs.declared.answers.Acquired.TheVariants.{Now, Later}
 use Rattle.cqs_semaphore.specs.Alone.{IsPlainAcquire}

@@ -1,12 +1,12 @@
 -- When a future that acquires may be polled, and what may come of it.
 use Rattle.std.specs.Prelude.{Option, Result, Ok, Err}
 use Rattle.cqs_core.specs.declared.entries.Entry.{Entry}
-use Rattle.cqs_views.specs.declared.client.ClientWords.{Ghosts}
-use Rattle.cqs_views.specs.declared.config.AcquireError.{AcquireError}
+use Rattle.cqs_rule_laws.specs.declared.client.ClientWords.{Ghosts}
+use Rattle.cqs_rule_laws.specs.declared.config.AcquireError.{AcquireError}
 use Rattle.cqs_rule.specs.declared.queue.Pass.{Pass}
 use Rattle.cqs_rule.specs.declared.queue.tokens.Wait.{Wait}
 use Rattle.cqs_semaphore_client.specs.declared.semaphore.SemClient.{SemClient}
-use Rattle.cqs_views.specs.declared.view.View.{View}
+use Rattle.cqs_rule_laws.specs.declared.view.View.{View}
 use Rattle.cqs_rule.specs.Passes.{pass_view}
 use Rattle.cqs_rule.specs.Waits.{HasWait}
 use Rattle.cqs_semaphore.specs.declared.answers.Acquired.{Acquired}
@@ -14,7 +14,8 @@ use Rattle.cqs_semaphore.specs.declared.answers.Acquired.TheVariants.{Now, Later
 use Rattle.cqs_semaphore.specs.declared.answers.CancelAnswer.{CancelAnswer}
 use Rattle.cqs_semaphore.specs.declared.answers.Permit.{Permit}
 use Rattle.cqs_semaphore.specs.declared.semaphore.Semaphore.{Semaphore}
-use Rattle.cqs_semaphore.specs.Calls.{IsMine, IsReady}
+use Rattle.cqs_rule_laws.specs.CallRule.{IsReady}
+use Rattle.cqs_semaphore.specs.Calls.{IsMine}
 use Rattle.cqs_waiter.specs.Arrivals.{Pends}
 use Rattle.cqs_waiter.specs.Permits.{HasLeft, PermitArrives, permit_calls}
 

@@ -1,8 +1,8 @@
 -- How what a caller waits for came to it: what the calls gave that it made, one after the other.
 -- What a call tells, each kind of waiter says.
 use Rattle.std.specs.Prelude.{◌≡◌, ◌⊎◌, ℕ, zero, suc, Option, Some, None, Result, Ok, Err}
-use Rattle.cqs_views.specs.declared.config.AcquireError.{AcquireError}
-use Rattle.cqs_views.specs.declared.config.AcquireError.TheVariants.{Worn}
+use Rattle.cqs_rule_laws.specs.declared.config.AcquireError.{AcquireError}
+use Rattle.cqs_rule_laws.specs.declared.config.AcquireError.TheVariants.{Worn}
 
 -- What the calls of one who waits tell of its pass before and after (V), of the token of a wait (W)
 -- and of what is waited for (X): all that the contract of the call says.

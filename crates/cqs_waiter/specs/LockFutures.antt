@@ -1,14 +1,14 @@
 -- When a future that locks may be polled, and what may come of it.
 use Rattle.std.specs.Prelude.{Option, Result}
 use Rattle.cqs_core.specs.declared.entries.Entry.{Entry}
-use Rattle.cqs_views.specs.declared.client.ClientWords.{Ghosts}
-use Rattle.cqs_views.specs.declared.config.AcquireError.{AcquireError}
+use Rattle.cqs_rule_laws.specs.declared.client.ClientWords.{Ghosts}
+use Rattle.cqs_rule_laws.specs.declared.config.AcquireError.{AcquireError}
 use Rattle.cqs_rule.specs.declared.queue.Pass.{Pass}
 use Rattle.cqs_semaphore_client.specs.declared.semaphore.SemClient.{SemClient}
-use Rattle.cqs_views.specs.declared.carries.Kept.{Kept}
+use Rattle.cqs_rule_laws.specs.declared.carries.Kept.{Kept}
 use Rattle.cqs_rule.specs.Passes.{pass_view}
 use Rattle.cqs_rule.specs.Waits.{HasWait}
-use Rattle.cqs_semaphore.specs.Calls.{IsReady}
+use Rattle.cqs_rule_laws.specs.CallRule.{IsReady}
 use Rattle.cqs_mutex.specs.declared.answers.LockLeft.{LockLeft}
 use Rattle.cqs_mutex.specs.declared.guard.Guard.{Guard}
 use Rattle.cqs_mutex.specs.declared.guard.LockWait.{LockWait}

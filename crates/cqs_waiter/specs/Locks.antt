@@ -2,9 +2,9 @@
 -- mutex's own calls gave, one after the other.
 use Rattle.std.specs.Prelude.{Option, Result, Ok, Err}
 use Rattle.cqs_core.specs.declared.entries.Entry.{Entry}
-use Rattle.cqs_views.specs.declared.config.AcquireError.{AcquireError}
-use Rattle.cqs_views.specs.declared.carries.Kept.{Kept}
-use Rattle.cqs_views.specs.declared.view.View.{View}
+use Rattle.cqs_rule_laws.specs.declared.config.AcquireError.{AcquireError}
+use Rattle.cqs_rule_laws.specs.declared.carries.Kept.{Kept}
+use Rattle.cqs_rule_laws.specs.declared.view.View.{View}
 use Rattle.cqs_mutex.specs.declared.answers.Locked.{Locked}
 use Rattle.cqs_mutex.specs.declared.answers.Locked.TheVariants.{Now, Later}
 use Rattle.cqs_mutex.specs.declared.answers.PolledLock.{PolledLock}

@@ -2,9 +2,9 @@
 -- semaphore's own calls gave, one after the other.
 use Rattle.std.specs.Prelude.{◌≡◌, true, [], Option, Result, Ok, Err, IfOk, OnOk, OnErr}
 use Rattle.cqs_core.specs.declared.entries.Entry.{Entry}
-use Rattle.cqs_views.specs.declared.config.AcquireError.{AcquireError}
+use Rattle.cqs_rule_laws.specs.declared.config.AcquireError.{AcquireError}
 use Rattle.cqs_rule.specs.declared.queue.tokens.Wait.{Wait}
-use Rattle.cqs_views.specs.declared.view.View.{View}
+use Rattle.cqs_rule_laws.specs.declared.view.View.{View}
 use Rattle.cqs_rule.specs.Waits.{place_of}
 use Rattle.cqs_semaphore.specs.declared.answers.Acquired.{Acquired}
 use Rattle.cqs_semaphore.specs.declared.answers.Acquired.TheVariants.{Now, Later}

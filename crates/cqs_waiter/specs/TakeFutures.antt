@@ -1,22 +1,22 @@
 -- When a future that takes an item of a pool may be polled, and what may come of it.
 use Rattle.std.specs.Prelude.{Option, Result, IfOk}
 use Rattle.cqs_pool_object.specs.declared.entries.PoolEntry.{PoolEntry}
-use Rattle.cqs_views.specs.declared.client.ClientWords.{Ghosts}
-use Rattle.cqs_views.specs.declared.config.AcquireError.{AcquireError}
+use Rattle.cqs_rule_laws.specs.declared.client.ClientWords.{Ghosts}
+use Rattle.cqs_rule_laws.specs.declared.config.AcquireError.{AcquireError}
 use Rattle.cqs_rule.specs.declared.queue.Pass.{Pass}
 use Rattle.cqs_rule.specs.declared.queue.tokens.Wait.{Wait}
-use Rattle.cqs_views.specs.declared.carries.Kept.{Kept}
+use Rattle.cqs_rule_laws.specs.declared.carries.Kept.{Kept}
 use Rattle.cqs_rule.specs.Passes.{pass_view}
 use Rattle.cqs_rule.specs.Waits.{HasWait}
 use Rattle.cqs_pool.specs.declared.client.PoolClient.{PoolClient}
 use Rattle.cqs_pool.specs.Answers.{IsInHand}
-use Rattle.cqs_pool.specs.Calls.{IsReady}
-use Rattle.cqs_value_pool.specs.declared.answers.ItemLeft.{ItemLeft}
-use Rattle.cqs_value_pool.specs.declared.item.Item.{Item}
-use Rattle.cqs_value_pool.specs.declared.opening.ValuePool.{ValuePool}
-use Rattle.cqs_value_pool.specs.Calls.{HasLeft, LeftLeaves}
-use Rattle.cqs_value_pool.specs.Items.{number_of}
-use Rattle.cqs_value_pool.specs.Pools.{Belongs}
+use Rattle.cqs_rule_laws.specs.CallRule.{IsReady}
+use Rattle.cqs_pool_values.specs.declared.answers.ItemLeft.{ItemLeft}
+use Rattle.cqs_pool_values.specs.declared.item.Item.{Item}
+use Rattle.cqs_pool_values.specs.declared.opening.ValuePool.{ValuePool}
+use Rattle.cqs_pool_values.specs.Calls.{HasLeft, LeftLeaves}
+use Rattle.cqs_pool_values.specs.Items.{number_of}
+use Rattle.cqs_pool_values.specs.Pools.{Belongs}
 use Rattle.cqs_waiter.specs.declared.take_future.TakeFuture.{TakeFuture}
 use Rattle.cqs_waiter.specs.declared.take_future.TakeOutcome.{TakeOutcome}
 use Rattle.cqs_waiter.specs.Arrivals.{Pends}

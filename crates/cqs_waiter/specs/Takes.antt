@@ -2,17 +2,17 @@
 -- the pool's own calls gave, one after the other.
 use Rattle.std.specs.Prelude.{Option, Result, Ok, Err}
 use Rattle.cqs_pool_object.specs.declared.entries.PoolEntry.{PoolEntry}
-use Rattle.cqs_views.specs.declared.config.AcquireError.{AcquireError}
+use Rattle.cqs_rule_laws.specs.declared.config.AcquireError.{AcquireError}
 use Rattle.cqs_rule.specs.declared.queue.tokens.Wait.{Wait}
-use Rattle.cqs_views.specs.declared.carries.Kept.{Kept}
-use Rattle.cqs_views.specs.declared.view.View.{View}
+use Rattle.cqs_rule_laws.specs.declared.carries.Kept.{Kept}
+use Rattle.cqs_rule_laws.specs.declared.view.View.{View}
 use Rattle.cqs_rule.specs.Waits.{HasWait}
-use Rattle.cqs_value_pool.specs.declared.answers.ItemPolled.{ItemPolled}
-use Rattle.cqs_value_pool.specs.declared.answers.ItemPolled.TheVariants.{Granted, Pending}
-use Rattle.cqs_value_pool.specs.declared.answers.ItemTaking.{ItemTaking}
-use Rattle.cqs_value_pool.specs.declared.answers.ItemTaking.TheVariants.{Took, Later}
-use Rattle.cqs_value_pool.specs.declared.item.Item.{Item}
-use Rattle.cqs_value_pool.specs.Calls.{HasPolled, HasTaken, PolledLeaves, TakenLeaves}
+use Rattle.cqs_pool_values.specs.declared.answers.ItemPolled.{ItemPolled}
+use Rattle.cqs_pool_values.specs.declared.answers.ItemPolled.TheVariants.{Granted, Pending}
+use Rattle.cqs_pool_values.specs.declared.answers.ItemTaking.{ItemTaking}
+use Rattle.cqs_pool_values.specs.declared.answers.ItemTaking.TheVariants.{Took, Later}
+use Rattle.cqs_pool_values.specs.declared.item.Item.{Item}
+use Rattle.cqs_pool_values.specs.Calls.{HasPolled, HasTaken, PolledLeaves, TakenLeaves}
 use Rattle.cqs_waiter.specs.Arrivals.{WaiterCalls, Arrives, BeginsAtOnce, BeginsToWait, BeginsRefused}
 
 module _ {T : Type 0} where

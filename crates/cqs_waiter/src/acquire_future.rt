@@ -2,12 +2,13 @@
 
 ghost use Rattle.std.specs.Prelude.{◌≡◌, ◌⊎◌, true, Some, None, IsSome, IsSomeAnd, IfSome};
 ghost use mathlib.Core.Logic.{◌↔◌};
-ghost use Rattle.cqs_views.specs.Crew.{IsBetween};
+ghost use Rattle.cqs_rule_laws.specs.Crew.{IsBetween};
 ghost use Rattle.cqs_rule.specs.Passes.{pass_view};
 ghost use Rattle.cqs_rule.specs.Waits.{HasWait};
 ghost use Rattle.futures.specs.Poll.{IfReady, OnPending};
 ghost use Rattle.futures.specs.Task.{Covers, Keeps};
-ghost use Rattle.cqs_semaphore.specs.Calls.{IsMine, IsReady};
+ghost use Rattle.cqs_rule_laws.specs.CallRule.{IsReady};
+ghost use Rattle.cqs_semaphore.specs.Calls.{IsMine};
 ghost use Rattle.cqs_waiter.specs.AcquireFutures.{Acquires, AcquirePends, EndsWait, GotWait, IsIn, Waits};
 ghost use Rattle.cqs_waiter.specs.Futures.{CanPoll, Gives, LookPended, GivesUp};
 ghost use Rattle.cqs_waiter.specs.Permits.{PermitBegins};

@@ -3,7 +3,8 @@
 ghost use Rattle.std.specs.Prelude.{◌≡◌, None};
 ghost use Rattle.cqs_rule.specs.Passes.{pass_view};
 ghost use Rattle.cqs_rule.specs.Waits.{HasWait};
-ghost use Rattle.cqs_semaphore.specs.Calls.{IsMine, IsReady};
+ghost use Rattle.cqs_rule_laws.specs.CallRule.{IsReady};
+ghost use Rattle.cqs_semaphore.specs.Calls.{IsMine};
 ghost use Rattle.cqs_waiter.specs.Permits.{PermitArrives};
 
 use crate::looks::Looks;

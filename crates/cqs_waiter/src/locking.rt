@@ -3,7 +3,7 @@
 ghost use Rattle.std.specs.Prelude.{◌≡◌, None};
 ghost use Rattle.cqs_rule.specs.Passes.{pass_view};
 ghost use Rattle.cqs_rule.specs.Waits.{HasWait};
-ghost use Rattle.cqs_semaphore.specs.Calls.{IsReady};
+ghost use Rattle.cqs_rule_laws.specs.CallRule.{IsReady};
 ghost use Rattle.cqs_mutex.specs.Guards.{wait_in};
 ghost use Rattle.cqs_mutex.specs.Mutexes.{Belongs};
 ghost use Rattle.cqs_waiter.specs.Locks.{LockArrives};

@@ -2,20 +2,20 @@
 
 ghost use Rattle.std.specs.Prelude.{◌≡◌, ◌⊎◌, true, Some, None, IsSome, IsSomeAnd};
 ghost use mathlib.Core.Logic.{◌↔◌};
-ghost use Rattle.cqs_views.specs.Crew.{IsBetween};
+ghost use Rattle.cqs_rule_laws.specs.Crew.{IsBetween};
 ghost use Rattle.cqs_rule.specs.Passes.{pass_view};
 ghost use Rattle.futures.specs.Poll.{IfReady, OnPending};
 ghost use Rattle.futures.specs.Task.{Covers, Keeps};
-ghost use Rattle.cqs_pool.specs.Calls.{IsReady};
-ghost use Rattle.cqs_value_pool.specs.Pools.{Belongs};
+ghost use Rattle.cqs_rule_laws.specs.CallRule.{IsReady};
+ghost use Rattle.cqs_pool_values.specs.Pools.{Belongs};
 ghost use Rattle.cqs_waiter.specs.Futures.{CanPoll, GivesUp};
 ghost use Rattle.cqs_waiter.specs.TakeFutures.{CanPollTake, EndsTakeWait, GivesItem, IsOfPool, ItemLeadsTo, TakePended, WaitsInPool};
 ghost use Rattle.cqs_waiter.specs.Takes.{HasItsWait, ItemBegins};
 
 use cqs_pool::PoolClient;
 use cqs_pool_object::PoolEntry;
+use cqs_pool_values::{Item, ItemLeft, ItemPolled, ItemTaking, ValuePass, ValuePool};
 use cqs_rule::{AcquireError, ClientWords, Kept, Wait};
-use cqs_value_pool::{Item, ItemLeft, ItemPolled, ItemTaking, ValuePass, ValuePool};
 use futures::task::{Context, Poll};
 
 /// What the future comes to: its pass again, and an item, or that no further number may be drawn.

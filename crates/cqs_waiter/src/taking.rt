@@ -3,14 +3,14 @@
 ghost use Rattle.std.specs.Prelude.{◌≡◌, None};
 ghost use Rattle.cqs_rule.specs.Passes.{pass_view};
 ghost use Rattle.cqs_rule.specs.Waits.{HasWait};
-ghost use Rattle.cqs_pool.specs.Calls.{IsReady};
-ghost use Rattle.cqs_value_pool.specs.Pools.{Belongs};
+ghost use Rattle.cqs_rule_laws.specs.CallRule.{IsReady};
+ghost use Rattle.cqs_pool_values.specs.Pools.{Belongs};
 ghost use Rattle.cqs_waiter.specs.TakeFutures.{HasItem};
 ghost use Rattle.cqs_waiter.specs.Takes.{ItemArrives};
 
 use crate::looks::Looks;
+use cqs_pool_values::{Item, ItemPolled, ItemTaking, ValuePass, ValuePool};
 use cqs_rule::{AcquireError, Wait};
-use cqs_value_pool::{Item, ItemPolled, ItemTaking, ValuePass, ValuePool};
 use std::sync::Wait as MayWait;
 
 /// Takes, and where a wait came of that, looks a while and then may sleep until an item has come.

@@ -4,7 +4,7 @@
 ghost use Rattle.std.specs.Prelude.{◌≡◌, ◌<◌, true, []};
 ghost use Rattle.cqs_core.specs.declared.doings.Doing.TheVariants.{Idle, TryAt};
 ghost use Rattle.cqs_rule.specs.Passes.{pass_view, IsOf};
-ghost use Rattle.cqs_views.specs.Events.{in_any_case, where_found};
+ghost use Rattle.cqs_rule_laws.specs.Events.{in_any_case, where_found};
 ghost use Rattle.cqs_semaphore_client.specs.Semaphore.{
   takes_one,
   loads_to_try,
@@ -14,7 +14,7 @@ ghost use Rattle.cqs_semaphore_client.specs.Semaphore.{
 ghost use Rattle.cqs_semaphore_client.specs.SemaphoreSlots.{IsFull, GivesValue};
 ghost use Rattle.cqs_semaphore_client.specs.SemaphoreSteps.{OnState, NextIs};
 ghost use Rattle.cqs_words.specs.State.{count_in, is_above_zero};
-ghost use Rattle.cqs_views.specs.Silent.{silent};
+ghost use Rattle.cqs_rule_laws.specs.Silent.{silent};
 
 use crate::semaphore::{Give, SemClient, Take, TryLoad, TrySwap};
 use cqs_rule::{Carries, Counts, Pass, Queue, SUSPENDS_WORD, Silent};

@@ -10,7 +10,7 @@ impl<T: Carries> ClientWords for SemClient<T> {
     ghost use Rattle.cqs_semaphore_client.specs.Semaphore.{semaphore_object, semaphore_primitive};
     ghost use Rattle.cqs_semaphore_client.specs.SemaphoreClient.{semaphore-client};
     ghost use Rattle.cqs_semaphore_client.specs.SemaphorePermits.{permits_of};
-    ghost use Rattle.cqs_views.specs.Carried.{slots_when};
+    ghost use Rattle.cqs_rule_laws.specs.Carried.{slots_when};
 
     type Slot = T;
 

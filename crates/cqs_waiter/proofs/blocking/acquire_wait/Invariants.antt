@@ -1,6 +1,7 @@
 use Rattle.cqs_rule.specs.Passes.{pass_view}
 use Rattle.cqs_rule.specs.Waits.{HasWait}
-use Rattle.cqs_semaphore.specs.Calls.{IsMine, IsReady}
+use Rattle.cqs_rule_laws.specs.CallRule.{IsReady}
+use Rattle.cqs_semaphore.specs.Calls.{IsMine}
 use Rattle.cqs_waiter.specs.Arrivals.{StillLooks}
 use Rattle.cqs_waiter.specs.Permits.{permit_calls}
 use Rattle.cqs_waiter.proofs.blocking.acquire_wait.Given as goal

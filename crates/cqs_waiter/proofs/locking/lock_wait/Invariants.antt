@@ -1,6 +1,6 @@
 use Rattle.cqs_rule.specs.Passes.{pass_view}
 use Rattle.cqs_rule.specs.Waits.{HasWait}
-use Rattle.cqs_semaphore.specs.Calls.{IsReady}
+use Rattle.cqs_rule_laws.specs.CallRule.{IsReady}
 use Rattle.cqs_mutex.specs.Guards.{wait_in}
 use Rattle.cqs_mutex.specs.Mutexes.{Belongs}
 use Rattle.cqs_waiter.specs.Arrivals.{StillLooks}

@@ -1,7 +1,7 @@
 use Rattle.cqs_rule.specs.Passes.{pass_view}
 use Rattle.cqs_rule.specs.Waits.{HasWait}
-use Rattle.cqs_pool.specs.Calls.{IsReady}
-use Rattle.cqs_value_pool.specs.Pools.{Belongs}
+use Rattle.cqs_rule_laws.specs.CallRule.{IsReady}
+use Rattle.cqs_pool_values.specs.Pools.{Belongs}
 use Rattle.cqs_waiter.specs.Arrivals.{StillLooks}
 use Rattle.cqs_waiter.specs.Takes.{take_calls}
 use Rattle.cqs_waiter.proofs.taking.take_wait.Given as goal

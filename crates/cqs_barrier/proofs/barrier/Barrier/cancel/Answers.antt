@@ -1,13 +1,13 @@
 use Rattle.std.proofs.Common.{sym, subst, ap, ◌∙◌}
-use Rattle.cqs_views.specs.declared.config.Place.{Place}
-use Rattle.cqs_views.specs.Lists.{Has}
+use Rattle.cqs_rule_laws.specs.declared.config.Place.{Place}
+use Rattle.cqs_rule_laws.specs.Lists.{Has}
 use Rattle.cqs_rule.specs.Passes.{pass_view, IsOf}
-use Rattle.cqs_views.specs.Placed.{KnowsPlace}
+use Rattle.cqs_rule_laws.specs.Placed.{KnowsPlace}
 use Rattle.cqs_rule.specs.Waits.{place_of}
 use Rattle.cqs_cancel.proofs.Steps.{came-late, began-place, missed-place}
 use Rattle.cqs_barrier.specs.declared.answers.PartyLeft.TheVariants.{TooLate}
 use Rattle.cqs_barrier.specs.Barrier.{barrier_object}
-use Rattle.cqs_barrier.specs.Calls.{IsReady}
+use Rattle.cqs_rule_laws.specs.CallRule.{IsReady}
 use Rattle.cqs_barrier.specs.Causes.{primitive_of}
 use Rattle.cqs_barrier.specs.Leaving.{HasLeft}
 use Rattle.cqs_barrier.specs.Waits.{wait_in}

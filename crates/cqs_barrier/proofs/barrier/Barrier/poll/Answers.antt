@@ -9,8 +9,10 @@ use Rattle.cqs_barrier.specs.Answers.{IsPolled}
 use Rattle.cqs_barrier.specs.Calls.{CallRule}
 use Rattle.cqs_barrier.specs.Waits.{wait_in}
 use Rattle.cqs_barrier.proofs.AloneCalls.{plain-poll}
-use Rattle.cqs_barrier.proofs.PollSteps.{pending, pending-called, pending-cell, pending-rests, granted, granted-called, granted-cell, granted-rests}
-use Rattle.cqs_barrier.proofs.Rules.{call-rule_own}
+use Rattle.cqs_core.specs.declared.cells.CoreState.TheVariants as state
+use Rattle.cqs_rule_laws.proofs.Rules.{call-rule_own}
+use Rattle.cqs_cell.proofs.Polls.{found-so, pending-called, pending-cell, pending-rests, granted-called, granted-cell, granted-rests}
+use Rattle.cqs_barrier.specs.Causes.{primitive_of}
 use Rattle.cqs_barrier.proofs.barrier.Barrier.poll.Goals as goal
 
 pub look_for_grant-requires-clause-belongs : goal.look_for_grant-requires-clause-belongs
@@ -31,8 +33,9 @@ returns-in-Some-clause-called g c =
     let k = (place_of (wait_in c.args.wait)).index in
     let look = c.look_for_grant.ensures.polled in
     let looks = rw (c.spend_wait-at.ensures.same, c.spend_wait-at.ensures.place) at look.looks in
-    call-rule_own _ _ (entry.LookGranted v.number k ∷ []) _
-    (granted-called k _ _ (granted k _ _ _ looks (rw c.in-Some.is at look.grant).0)) (λ n. refl, tt)
+    call-rule_own barrier_object _ _ (entry.LookGranted v.number k ∷ []) _
+    (granted-called barrier_object primitive_of k _ _ _ (found-so barrier_object primitive_of state.Resumed k _ _ _
+    looks (rw c.in-Some.is at look.grant).0)) (λ n. refl, tt)
     c.requires.belongs.live.own c.look_for_grant.ensures.belongs.live.legal
 
 pub returns-in-Some-clause-polled : goal.returns-in-Some-clause-polled
@@ -40,8 +43,10 @@ returns-in-Some-clause-polled g c =
     let k = (place_of (wait_in c.args.wait)).index in
     let look = c.look_for_grant.ensures.polled in
     let looks = rw (c.spend_wait-at.ensures.same, c.spend_wait-at.ensures.place) at look.looks in
-    let found = granted k _ _ _ looks (rw c.in-Some.is at look.grant).0 in
-    (granted-cell k _ _ found, granted-rests k _ _ c.requires.ready found)
+    let found = found-so barrier_object primitive_of state.Resumed k _ _ _ looks (rw c.in-Some.is at look.grant).0 in (
+      (granted-cell barrier_object primitive_of k _ _ _ found).0,
+      granted-rests barrier_object primitive_of k _ _ _ found c.requires.ready,
+    )
 
 pub returns-in-None-clause-belongs : goal.returns-in-None-clause-belongs
 returns-in-None-clause-belongs g c =
@@ -54,8 +59,9 @@ returns-in-None-clause-called g c =
     let look = c.look_for_grant.ensures.polled in
     let looks = rw (c.spend_wait-at.ensures.same, c.spend_wait-at.ensures.place) at look.looks in
     subst (λ p. CallRule v (entry.LookPending v.number k ∷ []) [] (pass_view p)) (sym c.wait_of.ensures.same)
-    (call-rule_own _ _ (entry.LookPending v.number k ∷ []) _
-    (pending-called k _ _ (pending k _ _ _ looks (rw c.in-None.is at look.grant))) (λ n. refl, tt)
+    (call-rule_own barrier_object _ _ (entry.LookPending v.number k ∷ []) _
+    (pending-called barrier_object primitive_of k _ _ _ (found-so barrier_object primitive_of state.Waiter k _ _ _ looks
+    (rw c.in-None.is at look.grant))) (λ n. refl, tt)
     c.requires.belongs.live.own c.look_for_grant.ensures.belongs.live.legal)
 
 pub returns-in-None-clause-polled : goal.returns-in-None-clause-polled
@@ -64,14 +70,14 @@ returns-in-None-clause-polled g c =
     let k = (place_of (wait_in c.args.wait)).index in
     let look = c.look_for_grant.ensures.polled in
     let looks = rw (c.spend_wait-at.ensures.same, c.spend_wait-at.ensures.place) at look.looks in
-    let found = pending k _ _ _ looks (rw c.in-None.is at look.grant) in
+    let found = found-so barrier_object primitive_of state.Waiter k _ _ _ looks (rw c.in-None.is at look.grant) in
     let has = rw c.wait_of.ensures.same at c.wait_of.ensures.has in
     subst (λ p. IsPolled (wait_in c.args.wait) v (polled.Pending (record { wait = c.wait_of.result })) (pass_view p))
     (sym c.wait_of.ensures.same) (
       c.wait_of.ensures.place ∙ c.spend_wait-at.ensures.place,
       has,
-      pending-cell k _ _ found,
-      pending-rests k _ _ c.requires.ready found,
+      pending-cell barrier_object primitive_of k _ _ _ found,
+      pending-rests barrier_object primitive_of k _ _ _ found c.requires.ready,
     )
 
 pub returns-in-Some-clause-alone : goal.returns-in-Some-clause-alone

@@ -1,5 +1,5 @@
 use Rattle.std.proofs.Common.{sym, subst}
-use Rattle.cqs_views.specs.declared.config.CancelMode.TheVariants.{Simple}
+use Rattle.cqs_rule_laws.specs.declared.config.CancelMode.TheVariants.{Simple}
 use Rattle.cqs_rule.specs.Passes.{pass_view}
 use Rattle.cqs_rule.specs.Waits.{place_of}
 use Rattle.cqs_latch.specs.LeftAnswers.{HasLeft}

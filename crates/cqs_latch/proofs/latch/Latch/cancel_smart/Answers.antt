@@ -1,6 +1,6 @@
 use Rattle.cqs_latch.proofs.CancelSteps.{smart-gone, smart-passed, smart-owing, late}
 use Rattle.cqs_latch.proofs.Simple.{is-asked}
-use Rattle.cqs_views.specs.declared.config.CancelMode.TheVariants.{Smart}
+use Rattle.cqs_rule_laws.specs.declared.config.CancelMode.TheVariants.{Smart}
 use Rattle.cqs_latch.proofs.latch.Latch.cancel_smart.Goals as goal
 
 pub cancel-requires-clause-asks : goal.cancel-requires-clause-asks

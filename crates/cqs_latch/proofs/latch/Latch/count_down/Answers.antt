@@ -1,6 +1,6 @@
 use Rattle.std.proofs.Common.{◌≡◌, ◌+◌, ◌≤◌, sym, ap, ◌∙◌, arith, None, Some, pos}
 use Rattle.std.proofs.lemmas.Int.{ints}
-use Rattle.cqs_views.specs.declared.view.Opening.{Opening}
+use Rattle.cqs_rule_laws.specs.declared.view.Opening.{Opening}
 use Rattle.cqs_rule.specs.Passes.{pass_view, client_of}
 use Rattle.cqs_words.specs.State.{count_in}
 use Rattle.cqs_latch.specs.LatchMade.{count_of}

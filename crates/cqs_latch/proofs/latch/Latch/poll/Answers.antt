@@ -9,8 +9,10 @@ use Rattle.cqs_latch.specs.Calls.{CallRule}
 use Rattle.cqs_latch.specs.declared.answers.LatchPolled.TheVariants.{Through, Pending}
 use Rattle.cqs_latch.proofs.AloneSteps.{plain-polled}
 use Rattle.cqs_latch.proofs.Kept.{keeps-polled}
-use Rattle.cqs_latch.proofs.PollSteps.{pending, pending-called, pending-cell, pending-rests, granted, granted-called, granted-cell, granted-rests}
-use Rattle.cqs_latch.proofs.Rules.{call-rule_own}
+use Rattle.cqs_core.specs.declared.cells.CoreState.TheVariants as state
+use Rattle.cqs_rule_laws.proofs.Rules.{call-rule_own}
+use Rattle.cqs_cell.proofs.Polls.{found-so, pending-called, pending-cell, pending-ready, pending-waits, granted-called, granted-cell, granted-ready, granted-waits}
+use Rattle.cqs_latch.specs.Causes.{primitive_of}
 use Rattle.cqs_latch.proofs.latch.Latch.poll.Goals as goal
 
 pub look_for_grant-requires-clause-belongs : goal.look_for_grant-requires-clause-belongs
@@ -31,8 +33,9 @@ returns-in-Some-clause-called g c =
     let k = (place_of c.args.wait).index in
     let polled = c.look_for_grant.ensures.polled in
     let looks = rw (c.spend_wait-at.ensures.same, c.spend_wait-at.ensures.place) at polled.looks in
-    call-rule_own _ _ (entry.LookGranted v.number k ∷ []) _
-    (granted-called k _ _ (granted k _ _ _ looks (rw c.in-Some.is at polled.grant).0)) (λ n. refl, tt)
+    call-rule_own latch_object _ _ (entry.LookGranted v.number k ∷ []) _
+    (granted-called latch_object primitive_of k _ _ _ (found-so latch_object primitive_of state.Resumed k _ _ _ looks
+    (rw c.in-Some.is at polled.grant).0)) (λ n. refl, tt)
     c.requires.belongs.live.own c.look_for_grant.ensures.belongs.live.legal
 
 pub returns-in-Some-clause-polled : goal.returns-in-Some-clause-polled
@@ -40,9 +43,12 @@ returns-in-Some-clause-polled g c =
     let k = (place_of c.args.wait).index in
     let polled = c.look_for_grant.ensures.polled in
     let looks = rw (c.spend_wait-at.ensures.same, c.spend_wait-at.ensures.place) at polled.looks in
-    let found = granted k _ _ _ looks (rw c.in-Some.is at polled.grant).0 in (
-      granted-cell k _ _ found,
-      granted-rests k _ _ c.requires.ready found,
+    let found = found-so latch_object primitive_of state.Resumed k _ _ _ looks (rw c.in-Some.is at polled.grant).0 in (
+      (granted-cell latch_object primitive_of k _ _ _ found).0,
+      record {
+        ready = granted-ready latch_object primitive_of k _ _ _ found c.requires.ready;
+        waits_are = granted-waits latch_object primitive_of k _ _ _ found;
+      },
     )
 
 pub returns-in-None-clause-belongs : goal.returns-in-None-clause-belongs
@@ -56,8 +62,9 @@ returns-in-None-clause-called g c =
     let polled = c.look_for_grant.ensures.polled in
     let looks = rw (c.spend_wait-at.ensures.same, c.spend_wait-at.ensures.place) at polled.looks in
     subst (λ p. CallRule v (entry.LookPending v.number k ∷ []) [] (pass_view p)) (sym c.wait_of.ensures.same)
-    (call-rule_own _ _ (entry.LookPending v.number k ∷ []) _
-    (pending-called k _ _ (pending k _ _ _ looks (rw c.in-None.is at polled.grant))) (λ n. refl, tt)
+    (call-rule_own latch_object _ _ (entry.LookPending v.number k ∷ []) _
+    (pending-called latch_object primitive_of k _ _ _ (found-so latch_object primitive_of state.Waiter k _ _ _ looks
+    (rw c.in-None.is at polled.grant))) (λ n. refl, tt)
     c.requires.belongs.live.own c.look_for_grant.ensures.belongs.live.legal)
 
 pub returns-in-None-clause-polled : goal.returns-in-None-clause-polled
@@ -66,14 +73,17 @@ returns-in-None-clause-polled g c =
     let k = (place_of c.args.wait).index in
     let polled = c.look_for_grant.ensures.polled in
     let looks = rw (c.spend_wait-at.ensures.same, c.spend_wait-at.ensures.place) at polled.looks in
-    let found = pending k _ _ _ looks (rw c.in-None.is at polled.grant) in
+    let found = found-so latch_object primitive_of state.Waiter k _ _ _ looks (rw c.in-None.is at polled.grant) in
     let has = rw c.wait_of.ensures.same at c.wait_of.ensures.has in
     subst (λ p. IsPolled c.args.wait v (Rattle.cqs_latch.specs.declared.answers.LatchPolled.TheVariants.Pending
     c.wait_of.result) (pass_view p)) (sym c.wait_of.ensures.same) (
       c.wait_of.ensures.place ∙ c.spend_wait-at.ensures.place,
       has,
-      pending-cell k _ _ found,
-      pending-rests k _ _ c.requires.ready found,
+      pending-cell latch_object primitive_of k _ _ _ found,
+      record {
+        ready = pending-ready latch_object primitive_of k _ _ _ found c.requires.ready;
+        waits_are = pending-waits latch_object primitive_of k _ _ _ found;
+      },
     )
 
 pub returns-in-Some-clause-keeps : goal.returns-in-Some-clause-keeps

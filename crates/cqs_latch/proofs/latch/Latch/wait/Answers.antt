@@ -1,5 +1,5 @@
 use Rattle.std.proofs.Common.{sym, ◌∙◌, arith, true, false, Ok, Err}
-use Rattle.cqs_views.specs.declared.config.AcquireError.TheVariants.{Worn}
+use Rattle.cqs_rule_laws.specs.declared.config.AcquireError.TheVariants.{Worn}
 use Rattle.cqs_latch.specs.declared.answers.LatchWait.TheVariants.{Passed}
 use Rattle.cqs_latch.proofs.AloneSteps.{plain-waited}
 use Rattle.cqs_latch.proofs.Kept.{keeps-waited}

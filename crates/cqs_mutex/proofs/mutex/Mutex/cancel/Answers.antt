@@ -16,14 +16,22 @@ take-requires-clause-filled g c = λ κs lives.
 pub returns-in-Cancelled-clause-belongs : goal.returns-in-Cancelled-clause-belongs
 returns-in-Cancelled-clause-belongs g c =
     let b = c.requires.belongs in
+    let k = (place_of (wait_in c.args.wait)).index in
+    let v = pass_view c.args.pass.now in
+    let w = pass_view c.cancel.new.pass in
     let rule = c.cancel.ensures.cancelled.1.called in record {
       mine = c.cancel.ensures.belongs;
       filled = filled-more _ _ b.filled rule.handed;
-      tidy = λ none. rule.unlaid 0 (b.tidy (sym (passes-held _ _ _ _ _ c.in-Cancelled.ensures.cancelled.2.1) ∙ none));
+      tidy = λ none.
+          rule.unlaid 0 (b.tidy (sym (passes-held k v w _ _ c.in-Cancelled.ensures.cancelled.2.1) ∙ none));
     }
 
 pub returns-in-Cancelled-clause-holds : goal.returns-in-Cancelled-clause-holds
-returns-in-Cancelled-clause-holds g c = passes-leave _ _ _ _ _ c.in-Cancelled.ensures.cancelled.2.1
+returns-in-Cancelled-clause-holds g c =
+    let k = (place_of (wait_in c.args.wait)).index in
+    let v = pass_view c.args.pass.now in
+    let w = pass_view c.cancel.new.pass in
+    passes-leave k v w _ _ c.in-Cancelled.ensures.cancelled.2.1
 
 pub returns-in-TooLate-clause-left : goal.returns-in-TooLate-clause-left
 returns-in-TooLate-clause-left g c =

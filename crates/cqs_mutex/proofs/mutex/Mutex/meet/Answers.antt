@@ -1,6 +1,6 @@
 use Rattle.std.proofs.Common.{◌∙◌, ap, sym, subst, arith}
 use Rattle.cqs_rule.specs.Passes.{pass_view}
-use Rattle.cqs_views.specs.Slots.{laid_in}
+use Rattle.cqs_rule_laws.specs.Slots.{laid_in}
 use Rattle.cqs_mutex.specs.Mutexes.{Belongs}
 use Rattle.cqs_mutex.proofs.Values.{filled-more, none-both, by-answer}
 use Rattle.cqs_mutex.proofs.mutex.Mutex.meet.Goals as goal

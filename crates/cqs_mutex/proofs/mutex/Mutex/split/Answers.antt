@@ -1,5 +1,5 @@
 use Rattle.std.proofs.Common.{◌∙◌, ap, sym, subst}
-use Rattle.cqs_views.specs.Slots.{laid_in}
+use Rattle.cqs_rule_laws.specs.Slots.{laid_in}
 use Rattle.cqs_mutex.specs.Mutexes.{IsFilled}
 use Rattle.cqs_mutex.proofs.Values.{filled-more, if-ok}
 use Rattle.cqs_mutex.proofs.mutex.Mutex.split.Goals as goal

@@ -12,7 +12,7 @@ returns-in-Busy-clause-belongs g c =
     let rule = c.try_acquire.ensures.called.called in record {
       mine = c.try_acquire.ensures.belongs;
       filled = filled-more _ _ b.filled rule.handed;
-      tidy = λ none. rule.unlaid 0 (b.tidy (sym c.in-Busy.ensures.tries.4.held_is ∙ none));
+      tidy = λ none. rule.unlaid 0 (b.tidy (sym c.in-Busy.ensures.tries.rests.held_is ∙ none));
     }
 
 pub returns-in-Contended-clause-belongs : goal.returns-in-Contended-clause-belongs
@@ -21,5 +21,5 @@ returns-in-Contended-clause-belongs g c =
     let rule = c.try_acquire.ensures.called.called in record {
       mine = c.try_acquire.ensures.belongs;
       filled = filled-more _ _ b.filled rule.handed;
-      tidy = λ none. rule.unlaid 0 (b.tidy (sym c.in-Contended.ensures.tries.1.held_is ∙ none));
+      tidy = λ none. rule.unlaid 0 (b.tidy (sym c.in-Contended.ensures.tries.rests.held_is ∙ none));
     }

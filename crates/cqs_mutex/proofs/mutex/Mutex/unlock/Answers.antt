@@ -1,6 +1,6 @@
 use Rattle.std.proofs.Common.{ap}
-use Rattle.cqs_views.specs.Slots.{laid_in}
-use Rattle.cqs_views.proofs.Lists.{prefix-then}
+use Rattle.cqs_rule_laws.specs.Slots.{laid_in}
+use Rattle.cqs_rule_laws.proofs.Lists.{prefix-then}
 use Rattle.cqs_mutex.specs.Values.{in_slot}
 use Rattle.cqs_mutex.proofs.Values.{filled-more, filled-last, releases-leave}
 use Rattle.cqs_mutex.proofs.mutex.Mutex.unlock.Goals as goal

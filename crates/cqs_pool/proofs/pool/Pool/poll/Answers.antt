@@ -8,8 +8,10 @@ use Rattle.cqs_pool.specs.Answers.{IsPolled}
 use Rattle.cqs_pool.specs.Calls.{CallRule}
 use Rattle.cqs_pool.specs.Pool.{pool_object}
 use Rattle.cqs_pool.proofs.AloneSteps.{plain-granted, plain-pending, new-one}
-use Rattle.cqs_pool.proofs.PollSteps.{pending, pending-called, pending-cell, pending-rests, granted, granted-called, granted-cell, granted-rests}
-use Rattle.cqs_pool.proofs.Rules.{call-rule_own}
+use Rattle.cqs_core.specs.declared.cells.CoreState.TheVariants as state
+use Rattle.cqs_rule_laws.proofs.Rules.{call-rule_own}
+use Rattle.cqs_cell.proofs.Polls.{FoundSo, found-so, pending-called, pending-cell, pending-ready, pending-has, pending-waits, granted-called, granted-cell, granted-ready, granted-has, granted-waits}
+use Rattle.cqs_pool.specs.Causes.{primitive_of}
 use Rattle.cqs_pool.proofs.pool.Pool.poll.Goals as goal
 
 pub look_for_grant-requires-clause-belongs : goal.look_for_grant-requires-clause-belongs
@@ -27,27 +29,36 @@ wait_of-requires-clause-place g c =
 pub returns-in-Some-clause-called : goal.returns-in-Some-clause-called
 returns-in-Some-clause-called g c =
     let v = pass_view c.args.pass.now in
+    let w = pass_view c.look_for_grant.new.pass in
     let k = (place_of c.args.wait).index in
     let e = c.in-Some.number in
     let polled = c.look_for_grant.ensures.polled in
     let looks = rw (c.spend_wait-at.ensures.same, c.spend_wait-at.ensures.place) at polled.looks in
     let grant = rw c.in-Some.is at polled.grant in
-    let found = granted k _ _ _ looks grant.0 in
-    call-rule_own _ _ (entry.LookGranted v.number k e ∷ []) _
-    (granted-called k e _ _ found.0 (found.1 ∙ grant.1)) (λ n. refl, tt)
+    let found = subst (λ x. FoundSo pool_object primitive_of state.Resumed k x v w) grant.1
+    (found-so pool_object primitive_of state.Resumed k v w _ looks grant.0) in
+    call-rule_own pool_object _ _ (entry.LookGranted v.number k e ∷ []) _
+    (granted-called pool_object primitive_of k e v w found) (λ n. refl, tt)
     c.requires.belongs.live.own c.look_for_grant.ensures.belongs.live.legal
 
 pub returns-in-Some-clause-polled : goal.returns-in-Some-clause-polled
 returns-in-Some-clause-polled g c =
+    let v = pass_view c.args.pass.now in
+    let w = pass_view c.look_for_grant.new.pass in
     let k = (place_of c.args.wait).index in
     let e = c.in-Some.number in
     let polled = c.look_for_grant.ensures.polled in
     let looks = rw (c.spend_wait-at.ensures.same, c.spend_wait-at.ensures.place) at polled.looks in
     let grant = rw c.in-Some.is at polled.grant in
-    let found = granted k _ _ _ looks grant.0 in (
+    let found = subst (λ x. FoundSo pool_object primitive_of state.Resumed k x v w) grant.1
+    (found-so pool_object primitive_of state.Resumed k v w _ looks grant.0) in (
       ap (λ p. p.index) c.spend_wait-at.ensures.place,
-      granted-cell k e _ _ found.0 (found.1 ∙ grant.1),
-      granted-rests k e _ _ found.0 (found.1 ∙ grant.1) c.requires.ready,
+      granted-cell pool_object primitive_of k e v w found,
+      record {
+        ready = granted-ready pool_object primitive_of k e v w found c.requires.ready;
+        elements_are = ap (λ h. h.slots) (granted-has pool_object primitive_of k e v w found);
+        waits_are = granted-waits pool_object primitive_of k e v w found;
+      },
     )
 
 pub returns-in-None-clause-belongs : goal.returns-in-None-clause-belongs
@@ -61,8 +72,9 @@ returns-in-None-clause-called g c =
     let polled = c.look_for_grant.ensures.polled in
     let looks = rw (c.spend_wait-at.ensures.same, c.spend_wait-at.ensures.place) at polled.looks in
     subst (λ p. CallRule v (entry.LookPending v.number k ∷ []) [] (pass_view p)) (sym c.wait_of.ensures.same)
-    (call-rule_own _ _ (entry.LookPending v.number k ∷ []) _
-    (pending-called k _ _ (pending k _ _ _ looks (rw c.in-None.is at polled.grant))) (λ n. refl, tt)
+    (call-rule_own pool_object _ _ (entry.LookPending v.number k ∷ []) _
+    (pending-called pool_object primitive_of k _ _ _ (found-so pool_object primitive_of state.Waiter k _ _ _ looks
+    (rw c.in-None.is at polled.grant))) (λ n. refl, tt)
     c.requires.belongs.live.own c.look_for_grant.ensures.belongs.live.legal)
 
 pub returns-in-None-clause-polled : goal.returns-in-None-clause-polled
@@ -71,13 +83,17 @@ returns-in-None-clause-polled g c =
     let k = (place_of c.args.wait).index in
     let polled = c.look_for_grant.ensures.polled in
     let looks = rw (c.spend_wait-at.ensures.same, c.spend_wait-at.ensures.place) at polled.looks in
-    let found = pending k _ _ _ looks (rw c.in-None.is at polled.grant) in
+    let found = found-so pool_object primitive_of state.Waiter k _ _ _ looks (rw c.in-None.is at polled.grant) in
     let has = rw c.wait_of.ensures.same at c.wait_of.ensures.has in
     subst (λ p. IsPolled c.args.wait v (Pending c.wait_of.result) (pass_view p)) (sym c.wait_of.ensures.same) (
       c.wait_of.ensures.place ∙ c.spend_wait-at.ensures.place,
       has,
-      pending-cell k _ _ found,
-      pending-rests k _ _ c.requires.ready found,
+      pending-cell pool_object primitive_of k _ _ _ found,
+      record {
+        ready = pending-ready pool_object primitive_of k _ _ _ found c.requires.ready;
+        elements_are = ap (λ h. h.slots) (pending-has pool_object primitive_of k _ _ _ found);
+        waits_are = pending-waits pool_object primitive_of k _ _ _ found;
+      },
     )
 
 pub returns-in-Some-clause-alone : goal.returns-in-Some-clause-alone

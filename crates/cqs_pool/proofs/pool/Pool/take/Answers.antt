@@ -1,14 +1,17 @@
 use Rattle.std.proofs.Common.{[], ◌∙◌, arith}
 use Rattle.cqs_rule.specs.Waits.{place_of}
 use Rattle.cqs_pool.proofs.AloneSteps.{quiet, plain-took, plain-later, took-first, new-one}
-use Rattle.cqs_pool.proofs.Counters.{next-is}
-use Rattle.cqs_pool.proofs.Rules.{call-rule_own}
-use Rattle.cqs_pool.proofs.TakeSteps.{worn, loaded-called, took-called, took-below, took-cell, took-rests, waits-called, waits-below, waits-cell, waits-rests}
+use Rattle.cqs_rule_laws.proofs.Causes.{worn}
+use Rattle.cqs_rule_laws.proofs.Rules.{call-rule_own}
+use Rattle.cqs_pool.specs.Causes.{drawn_in}
+use Rattle.cqs_pool.specs.Pool.{pool_object}
+use Rattle.cqs_pool.proofs.Counters.{next-is, next-count}
+use Rattle.cqs_pool.proofs.TakeSteps.{loaded-called, took-called, took-below, took-cell, took-rests, waits-called, waits-below, waits-cell, waits-rests}
 use Rattle.cqs_pool.proofs.pool.Pool.take.Goals as goal
 
 pub returns-then-load_table-limit-clause-called : goal.returns-then-load_table-limit-clause-called
 returns-then-load_table-limit-clause-called g c =
-    call-rule_own _ _ [] [] (loaded-called _ _ _ (next-is _ _ _ c.load_table.ensures.saw)) tt
+    call-rule_own pool_object _ _ [] [] (loaded-called _ _ _ (next-is _ _ _ c.load_table.ensures.saw)) tt
     c.requires.belongs.live.own
     c.load_table.ensures.belongs.live.legal
 
@@ -17,7 +20,8 @@ returns-then-load_table-limit-clause-worn g c =
     let limit = c.limit.ensures in
     let is = c.requires.belongs.limit in
     let high = c.if-load_table-limit.true in
-    worn _ _ _ (next-is _ _ _ c.load_table.ensures.saw) (omega arith)
+    let next = next-is _ _ _ c.load_table.ensures.saw in
+    worn pool_object drawn_in _ _ _ next.saw (next-count _ _ _ next) (omega arith)
 
 pub returns-in-Waits-clause-called : goal.returns-in-Waits-clause-called
 returns-in-Waits-clause-called g c =

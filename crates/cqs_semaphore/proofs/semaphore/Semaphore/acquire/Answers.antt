@@ -3,21 +3,27 @@ use Rattle.cqs_core.specs.declared.entries.Entry.TheVariants as entry
 use Rattle.cqs_rule.specs.Passes.{pass_view}
 use Rattle.cqs_semaphore.specs.declared.answers.Acquired.TheVariants.{Now}
 use Rattle.cqs_semaphore.proofs.AloneSteps.{quiet, plain-acquire}
-use Rattle.cqs_semaphore.proofs.AcquireSteps.{Came, came, worn, worn-called, was-free, below-now, waits-called, waits-below, waits-acquired}
-use Rattle.cqs_semaphore.proofs.Rules.{call-rule_own}
+use Rattle.cqs_semaphore.proofs.AcquireSteps.{Came, came, was-free, below-now, waits-called, waits-below, waits-acquired}
+use Rattle.cqs_rule_laws.proofs.Calls.{called-by}
+use Rattle.cqs_rule_laws.proofs.Causes.{worn}
+use Rattle.cqs_rule_laws.proofs.Rules.{call-rule_own}
+use Rattle.cqs_semaphore_client.specs.Semaphore.{semaphore_object}
+use Rattle.cqs_semaphore.specs.Causes.{drawn_in}
+use Rattle.cqs_semaphore.proofs.States.{next-count}
 use Rattle.cqs_semaphore.proofs.semaphore.Semaphore.acquire.Goals as goal
 
 pub returns-then-next_wait-limit-clause-called : goal.returns-then-next_wait-limit-clause-called
 returns-then-next_wait-limit-clause-called g c =
-    call-rule_own _ _ [] [] (worn-called _ _ _ c.next_wait.ensures.saw) tt c.requires.belongs.live.own
-    c.next_wait.ensures.belongs.live.legal
+    call-rule_own semaphore_object _ _ [] [] (called-by semaphore_object _ _ _ [] c.next_wait.ensures.saw.saw) tt
+    c.requires.belongs.live.own c.next_wait.ensures.belongs.live.legal
 
 pub returns-then-next_wait-limit-clause-worn : goal.returns-then-next_wait-limit-clause-worn
 returns-then-next_wait-limit-clause-worn g c =
     let limit = c.limit.ensures in
     let is = c.requires.belongs.limit in
     let high = c.if-next_wait-limit.true in
-    worn _ _ _ c.next_wait.ensures.saw (omega arith)
+    worn semaphore_object drawn_in _ _ _ c.next_wait.ensures.saw.saw (next-count _ _ _ c.next_wait.ensures.saw)
+    (omega arith)
 
 pub returns-then-is_above_zero-clause-called : goal.returns-then-is_above_zero-clause-called
 returns-then-is_above_zero-clause-called g c =
@@ -28,8 +34,8 @@ returns-then-is_above_zero-clause-called g c =
     let t : Came true v (pass_view c.take_permit.new.pass) =
     came true _ _ _ _ _ (sym c.is_above_zero.ensures ∙ c.if-is_above_zero.true) (omega arith) c.next_wait.ensures.saw
     c.take_permit.ensures.saw in
-    call-rule_own _ _ (entry.TakeNow v.number ∷ []) _ t.called (λ n. refl, tt) c.requires.belongs.live.own
-    c.take_permit.ensures.belongs.live.legal
+    call-rule_own semaphore_object _ _ (entry.TakeNow v.number ∷ []) _ t.called (λ n. refl, tt)
+    c.requires.belongs.live.own c.take_permit.ensures.belongs.live.legal
 
 pub returns-then-is_above_zero-clause-below : goal.returns-then-is_above_zero-clause-below
 returns-then-is_above_zero-clause-below g c =

@@ -27,7 +27,7 @@ returns-in-GoneOwing-clause-cancelled g c =
 pub returns-in-GoneOwing-clause-between : goal.returns-in-GoneOwing-clause-between
 returns-in-GoneOwing-clause-between g c =
     let so = returns-in-GoneOwing-clause-cancelled g c in
-    passed-between _ _ _ _ _ so.2.1
+    passed-between (place_of c.args.wait).index (pass_view c.args.pass.now) (pass_view c.pass_on.new.pass) _ so.0 so.2.1
 
 pub returns-in-GoneOwing-clause-alone : goal.returns-in-GoneOwing-clause-alone
 returns-in-GoneOwing-clause-alone g c = λ alone.

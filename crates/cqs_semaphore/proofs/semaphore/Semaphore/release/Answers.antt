@@ -5,7 +5,8 @@ use Rattle.cqs_semaphore.proofs.ReleaseSteps.{gave, gave-called, freed, releases
 use Rattle.cqs_semaphore.proofs.Values.{gave-value, gave-at-once}
 use Rattle.cqs_semaphore.specs.declared.answers.Released.TheVariants.{Freed}
 use Rattle.cqs_semaphore.proofs.AloneSteps.{quiet, plain-release}
-use Rattle.cqs_semaphore.proofs.Rules.{call-rule_own}
+use Rattle.cqs_rule_laws.proofs.Rules.{call-rule_own}
+use Rattle.cqs_semaphore_client.specs.Semaphore.{semaphore_object}
 use Rattle.cqs_semaphore.proofs.semaphore.Semaphore.release.Goals as goal
 
 pub returns-then-is_below_zero-clause-called : goal.returns-then-is_below_zero-clause-called
@@ -30,7 +31,7 @@ pub returns-clause-called : goal.returns-clause-called
 returns-clause-called g c =
     let v = pass_view c.args.pass.now in
     let t = gave false _ _ _ (sym c.is_below_zero.ensures ∙ c.if-is_below_zero.false) c.give_permit.ensures.saw in
-    call-rule_own _ _ (entry.GiveFreed v.number ∷ []) _ (gave-called false _ _ _ t) (λ n. refl, tt)
+    call-rule_own semaphore_object _ _ (entry.GiveFreed v.number ∷ []) _ (gave-called false _ _ _ t) (λ n. refl, tt)
     c.requires.belongs.live.own c.give_permit.ensures.belongs.live.legal
 
 pub returns-clause-released : goal.returns-clause-released

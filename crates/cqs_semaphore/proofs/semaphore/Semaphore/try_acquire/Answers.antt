@@ -1,15 +1,14 @@
-use Rattle.std.proofs.Common.{◌∷◌, [], true, false, sym, refl, ap, ◌∙◌, subst}
+use Rattle.std.proofs.Common.{◌∷◌, [], true, false, sym, refl, ◌∙◌, subst}
 use Rattle.cqs_core.specs.declared.entries.Entry.TheVariants as entry
 use Rattle.cqs_rule.specs.Passes.{pass_view}
-use Rattle.cqs_words.specs.State.{is_above_zero, count_in}
 use Rattle.cqs_semaphore.specs.Answers.{Tries}
 use Rattle.cqs_semaphore.specs.Calls.{CallRule}
 use Rattle.cqs_semaphore.specs.Entries.{tried_entries}
 use Rattle.cqs_semaphore.specs.Alone.{IsPlainTry}
 use Rattle.cqs_semaphore.proofs.AloneSteps.{plain-busy, plain-got}
-use Rattle.cqs_semaphore.proofs.Rules.{call-rule_own}
-use Rattle.cqs_semaphore.proofs.States.{count-above, count-not_above}
-use Rattle.cqs_semaphore.proofs.TrySteps.{loaded, got, missed, busy-called, busy-found, busy-rests, swap-called, swap-found, swap-rests, contended}
+use Rattle.cqs_rule_laws.proofs.Rules.{call-rule_own}
+use Rattle.cqs_semaphore_client.specs.Semaphore.{semaphore_object}
+use Rattle.cqs_semaphore.proofs.TrySteps.{loaded, got, missed, busy-called, was-busy, swap-called, was-got, contended}
 use Rattle.cqs_semaphore.proofs.semaphore.Semaphore.try_acquire.Goals as goal
 
 pub returns-then-not-is_above_zero-clause-called : goal.returns-then-not-is_above_zero-clause-called
@@ -17,19 +16,13 @@ returns-then-not-is_above_zero-clause-called g c =
     let v = pass_view c.args.pass.now in
     let l = loaded false _ _ _ (sym c.is_above_zero.ensures ∙ c.if-not-is_above_zero.true) c.load_state-saw.ensures.saw
     in
-    call-rule_own _ _ (entry.TryBusy v.number ∷ []) _ (busy-called _ _ _ l) (λ n. refl, tt) c.requires.belongs.live.own
-    c.load_state-saw.ensures.belongs.live.legal
+    call-rule_own semaphore_object _ _ (entry.TryBusy v.number ∷ []) _ (busy-called _ _ _ l) (λ n. refl, tt)
+    c.requires.belongs.live.own c.load_state-saw.ensures.belongs.live.legal
 
 pub returns-then-not-is_above_zero-clause-tries : goal.returns-then-not-is_above_zero-clause-tries
 returns-then-not-is_above_zero-clause-tries g c =
     let is = sym c.is_above_zero.ensures ∙ c.if-not-is_above_zero.true in
-    let l = loaded false _ _ _ is c.load_state-saw.ensures.saw in (
-      count_in c.load_state-saw.result.word,
-      l.before,
-      count-not_above _ is,
-      busy-found _ _ _ l,
-      busy-rests _ _ _ c.requires.ready l,
-    )
+    was-busy _ _ _ is c.requires.ready (loaded false _ _ _ is c.load_state-saw.ensures.saw)
 
 pub returns-then-not-is_above_zero-clause-alone : goal.returns-then-not-is_above_zero-clause-alone
 returns-then-not-is_above_zero-clause-alone g c = λ alone.
@@ -41,21 +34,15 @@ returns-then-found-saw-clause-called g c =
     let is = sym c.is_above_zero.ensures ∙ c.if-not-is_above_zero.false in
     let l = loaded true _ _ _ is c.load_state-saw.ensures.saw in
     let s = got _ _ _ _ c.if-found-saw.true c.try_take-found.ensures.saw in
-    call-rule_own _ _ (entry.TryGot v.number ∷ []) _ (swap-called true _ _ _ _ _ l s) (λ n. refl, tt)
+    call-rule_own semaphore_object _ _ (entry.TryGot v.number ∷ []) _ (swap-called true _ _ _ _ _ l s) (λ n. refl, tt)
     c.requires.belongs.live.own c.try_take-found.ensures.belongs.live.legal
 
 pub returns-then-found-saw-clause-tries : goal.returns-then-found-saw-clause-tries
 returns-then-found-saw-clause-tries g c =
     let is = sym c.is_above_zero.ensures ∙ c.if-not-is_above_zero.false in
     let l = loaded true _ _ _ is c.load_state-saw.ensures.saw in
-    let s = got _ _ _ _ c.if-found-saw.true c.try_take-found.ensures.saw in (
-      count_in c.try_take-found.result.word,
-      s.before,
-      count-above _ (ap is_above_zero c.if-found-saw.true ∙ is),
-      swap-found true _ _ _ _ _ l s,
-      refl,
-      swap-rests true _ _ _ _ _ c.requires.ready l s,
-    )
+    let s = got _ _ _ _ c.if-found-saw.true c.try_take-found.ensures.saw in
+    (refl, was-got _ _ _ _ _ is c.if-found-saw.true c.requires.ready l s)
 
 pub returns-then-found-saw-clause-alone : goal.returns-then-found-saw-clause-alone
 returns-then-found-saw-clause-alone g c = λ alone.
@@ -69,7 +56,7 @@ returns-clause-called g c =
     let l = loaded true _ _ _ is c.load_state-saw.ensures.saw in
     let s = missed _ _ _ _ c.if-found-saw.false c.try_take-found.ensures.saw in
     subst (λ t. CallRule v (tried_entries v.number t) [] w) (sym c.contention.ensures)
-    (call-rule_own _ _ [] _ (swap-called false _ _ _ _ _ l s) tt c.requires.belongs.live.own
+    (call-rule_own semaphore_object _ _ [] _ (swap-called false _ _ _ _ _ l s) tt c.requires.belongs.live.own
     c.try_take-found.ensures.belongs.live.legal)
 
 pub returns-clause-tries : goal.returns-clause-tries
@@ -79,10 +66,8 @@ returns-clause-tries g c =
     let is = sym c.is_above_zero.ensures ∙ c.if-not-is_above_zero.false in
     let l = loaded true _ _ _ is c.load_state-saw.ensures.saw in
     let s = missed _ _ _ _ c.if-found-saw.false c.try_take-found.ensures.saw in
-    subst (λ t. Tries v t w) (sym c.contention.ensures) (
-      contended _ _ _ _ _ is c.if-found-saw.false l s,
-      swap-rests false _ _ _ _ _ c.requires.ready l s,
-    )
+    subst (λ t. Tries v t w) (sym c.contention.ensures)
+    (contended _ _ _ _ _ is c.if-found-saw.false c.requires.ready l s)
 
 pub returns-clause-alone : goal.returns-clause-alone
 returns-clause-alone g c = λ alone.
@@ -90,4 +75,4 @@ returns-clause-alone g c = λ alone.
     let l = loaded true _ _ _ is c.load_state-saw.ensures.saw in
     let s = missed _ _ _ _ c.if-found-saw.false c.try_take-found.ensures.saw in
     subst (λ t. IsPlainTry (pass_view c.args.pass.now) t) (sym c.contention.ensures)
-    ((contended _ _ _ _ _ is c.if-found-saw.false l s).together alone)
+    ((contended _ _ _ _ _ is c.if-found-saw.false c.requires.ready l s).together alone)

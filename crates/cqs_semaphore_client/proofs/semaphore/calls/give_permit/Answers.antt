@@ -1,5 +1,5 @@
 use Rattle.std.proofs.Common.{◌∙◌, sym}
-use Rattle.cqs_views.specs.Events.{in_any_case}
+use Rattle.cqs_rule_laws.specs.Events.{in_any_case}
 use Rattle.cqs_rule.specs.Passes.{pass_view}
 use Rattle.cqs_semaphore_client.specs.Semaphore.{gives_one}
 use Rattle.cqs_semaphore_client.proofs.SemaphoreMoves.{give-moves, none-stays, give-gives}

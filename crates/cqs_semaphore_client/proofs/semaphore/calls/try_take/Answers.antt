@@ -1,5 +1,5 @@
 use Rattle.std.proofs.Common.{subst, sym}
-use Rattle.cqs_views.specs.Events.{Moves, word_after_exchange, where_found}
+use Rattle.cqs_rule_laws.specs.Events.{Moves, word_after_exchange, where_found}
 use Rattle.cqs_rule.specs.Passes.{pass_view, client_of}
 use Rattle.cqs_semaphore_client.specs.Semaphore.{semaphore_object, semaphore_primitive, tries}
 use Rattle.cqs_semaphore_client.specs.SemaphorePermits.{permits_of}

@@ -1,0 +1,30 @@
+//! The one history in which the calls of all callers stand.
+
+ghost use Rattle.std.specs.Prelude.{◌≡◌, true};
+ghost use Rattle.cqs_rule.specs.Histories.{AreOf, HaveLookedOn, IsHistoryOf};
+ghost use Rattle.cqs_rule.specs.Passes.{pass_view};
+ghost use Rattle.cqs_rule_laws.specs.CallRule.{IsReady};
+ghost use Rattle.cqs_pool.specs.Calls.{IsMine};
+ghost use Rattle.cqs_pool.specs.Seats.{LookedOn};
+
+use crate::pool::{Pool, PoolPass};
+use cqs_rule::Carries;
+
+impl<T: Carries + Send> Pool<T> {
+    /// The calls of all these passes stand in one legal history of the plain pool, whether the
+    /// passes ever meet or not: that which the first one has seen then. It begins with what each of
+    /// them had seen, and has the entries of its calls once, in order.
+    pub fn one_history(&self, pass: &mut PoolPass<T>, others: &mut [PoolPass<T>])
+        requires belongs { IsMine self.now pass.old }
+        requires others_belong { AreOf self.now.queue others.old }
+        ensures belongs { IsMine self.now pass.new }
+        ensures others_belong { AreOf self.now.queue others.new }
+        ensures looked { LookedOn (pass_view pass.old) (pass_view pass.new) }
+        ensures ready { IsReady (pass_view pass.old).facts → IsReady (pass_view pass.new).facts }
+        ensures kept { (pass_view pass.old).alone ≡ true → (pass_view pass.new).alone ≡ true }
+        ensures others_looked { HaveLookedOn others.old others.new }
+        ensures history { IsHistoryOf (pass_view pass.new) pass.old others.old }
+    {
+        self.queue.one_history(pass, others)
+    }
+}

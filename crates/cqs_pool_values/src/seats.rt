@@ -1,0 +1,97 @@
+//! How a pass makes another, and how two become one.
+
+ghost use Rattle.std.specs.Prelude.{◌≡◌, ◌⊎◌, ◌++◌, ◌≤◌, [], true, IsTrue, IsErr, IfOk, IfErr, OnErr, OnOk};
+ghost use mathlib.Core.Logic.{◌↔◌};
+ghost use Rattle.cqs_rule_laws.specs.Crew.{IsBetween, IsSole, Came};
+ghost use Rattle.cqs_rule.specs.Passes.{pass_view, passes_of};
+ghost use Rattle.cqs_rule.specs.Seats.{IsBusy, HasMet};
+ghost use Rattle.cqs_pool.specs.Pool.{pool_object};
+ghost use Rattle.cqs_rule_laws.specs.Lists.{IsPrefix};
+ghost use Rattle.cqs_rule_laws.specs.Views.{made_in, live_in};
+ghost use Rattle.cqs_rule_laws.specs.CallRule.{IsReady};
+ghost use Rattle.cqs_pool.specs.Calls.{Course};
+ghost use Rattle.cqs_pool.specs.Seats.{LookedOn, SeesAll};
+ghost use Rattle.cqs_pool_values.specs.Pools.{Belongs};
+
+use crate::opening::{ValuePass, ValuePool};
+use cqs_rule::{Crowd, MeetError};
+
+impl<T: Send + Drop> ValuePool<T> {
+    /// A new pass, which has seen what this one has seen, has done nothing and holds nothing.
+    pub fn split(&self, pass: &mut ValuePass<T>) -> Result<ValuePass<T>, Crowd>
+        requires belongs { Belongs self.now pass.old }
+        requires ready { IsReady (pass_view pass.old).facts }
+        ensures belongs { Belongs self.now pass.new }
+        ensures crowd { IsErr result
+            ↔ (passes_of self.now.pool.queue ≤ made_in (pass_view pass.new).crew) }
+        ensures looked { LookedOn (pass_view pass.old) (pass_view pass.new) }
+        ensures ready { IsReady (pass_view pass.new).facts }
+        ensures kept { OnErr result ((pass_view pass.old).alone ≡ true
+            → (pass_view pass.new).alone ≡ true) }
+        ensures new_belongs { IfOk result (λ made. Belongs self.now made) }
+        ensures came { IfOk result
+            (λ made. Came pool_object (pass_view pass.new) (pass_view made)) }
+        ensures new_ready { IfOk result (λ made. IsReady (pass_view made).facts) }
+    {
+        self.pool.split(pass)
+    }
+
+    /// The pass takes in the given one: it has seen what each of them had seen, and has the
+    /// elements of both. An item of the given pass is put by this one then.
+    pub fn meet(
+        &self,
+        pass: &mut ValuePass<T>,
+        given: ValuePass<T>,
+    ) -> Result<(), (ValuePass<T>, MeetError)>
+        requires belongs { Belongs self.now pass.old }
+        requires given_belongs { Belongs self.now given }
+        requires ready { IsReady (pass_view pass.old).facts }
+        requires between { IsBetween (pass_view given).facts }
+        ensures belongs { Belongs self.now pass.new }
+        ensures busy { IsErr result ↔ IsBusy (pass_view given).facts }
+        ensures back { IfErr result (λ refused. refused.0 ≡ given) }
+        ensures unchanged { OnErr result (pass.new ≡ pass.old) }
+        ensures met { OnOk result (HasMet pass.old given pass.new) }
+        ensures laid { OnOk result ((pass_view pass.new).laid
+            ≡ (pass_view pass.old).laid ++ (pass_view given).laid) }
+        ensures course { OnOk result (Course (pass_view pass.old) [] (pass_view pass.new)) }
+        ensures elements { OnOk result ((pass_view pass.new).facts.has.slots
+            ≡ (pass_view pass.old).facts.has.slots ++ (pass_view given).facts.has.slots) }
+        ensures ready { IsReady (pass_view pass.new).facts }
+    {
+        self.pool.meet(pass, given)
+    }
+
+    /// Whether no other pass is there. Then this one has seen the whole history, and all others
+    /// rest.
+    pub fn sole(&self, pass: &mut ValuePass<T>) -> bool
+        requires belongs { Belongs self.now pass.old }
+        ensures belongs { Belongs self.now pass.new }
+        ensures sole { IsTrue result ↔ (live_in (pass_view pass.new).crew ≡ 1) }
+        ensures alone { result ≡ (pass_view pass.new).alone }
+        ensures kept { (pass_view pass.old).alone ≡ true → (pass_view pass.new).alone ≡ true }
+        ensures looked { LookedOn (pass_view pass.old) (pass_view pass.new) }
+        ensures ready { IsReady (pass_view pass.old).facts → IsReady (pass_view pass.new).facts }
+        ensures others { IsTrue result → SeesAll (pass_view pass.new) }
+    {
+        self.pool.sole(pass)
+    }
+
+    /// The pass has then seen all that the other one has seen by now. So what two passes of one
+    /// pool have seen are beginnings of one history, whether they ever meet or not.
+    pub fn catch_up(&self, pass: &mut ValuePass<T>, other: &mut ValuePass<T>)
+        requires belongs { Belongs self.now pass.old }
+        requires other_belongs { Belongs self.now other.old }
+        ensures belongs { Belongs self.now pass.new }
+        ensures other_belongs { Belongs self.now other.new }
+        ensures looked { LookedOn (pass_view pass.old) (pass_view pass.new) }
+        ensures kept { (pass_view pass.old).alone ≡ true → (pass_view pass.new).alone ≡ true }
+        ensures ready { IsReady (pass_view pass.old).facts → IsReady (pass_view pass.new).facts }
+        ensures other_stays { pass_view other.new ≡ pass_view other.old }
+        ensures all { IsPrefix (pass_view other.old).seen (pass_view pass.new).seen }
+        ensures one_history { IsPrefix (pass_view pass.old).seen (pass_view other.old).seen
+            ⊎ IsPrefix (pass_view other.old).seen (pass_view pass.old).seen }
+    {
+        self.pool.catch_up(pass, other)
+    }
+}

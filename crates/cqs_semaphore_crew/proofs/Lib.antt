@@ -1,0 +1,5 @@
+pub mod Ends
+pub mod Telling
+pub mod Meeting
+pub mod Waits
+pub mod Calls

@@ -1,0 +1,2 @@
+pub mod MailKeeps
+pub mod TallyKeeps

@@ -1,0 +1,24 @@
+//! The rules of a mailbox: many posts send letters to one desk, which acknowledges them.
+//!
+//! ```text
+//!  letters:  open ---> the desk;  hire ---> a post more
+//!            put ----> the letter is at the back, or the queue was full
+//!            take ---> the desk has the oldest letter, or the queue was empty
+//!            join ---> a post has met the desk
+//!  replies:  the same for one sender's acknowledgements: open, part, give, take, join
+//! ```
+//!
+//! What the desk has received of a post that it has met is a prefix of what that post had sent, in
+//! order; and where it finds the queue empty then, it is all of it. A post takes no more
+//! acknowledgements than the desk gave.
+#![tactic(auto)]
+
+mod known;
+mod letter;
+pub mod letters;
+pub mod replies;
+mod tally;
+
+pub use known::{Finished, Known};
+pub use letter::Letter;
+pub use tally::Tally;

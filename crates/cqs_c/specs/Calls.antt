@@ -1,11 +1,11 @@
 -- What a call by the numbers of the header is, and what its answer means.
 use Rattle.std.specs.Prelude.{◌≡◌, ℕ, ◌<◌, ◌≤◌, ◌^◌, ◌==◌, if◌then◌else◌, Option, Some, None}
-use Rattle.cqs_callers.specs.declared.answers.Answer.{Answer}
-use Rattle.cqs_callers.specs.declared.answers.Answer.TheVariants as answer
-use Rattle.cqs_by_number.specs.declared.numbered.Numbered.{Numbered}
-use Rattle.cqs_callers.specs.declared.verb.Verb.TheVariants as verb
-use Rattle.cqs_by_number.specs.Answered.{IsAnswered}
-use Rattle.cqs_by_number.specs.Seats.{IsSplit, IsMet}
+use Rattle.cqs_c_callers.specs.declared.answers.Answer.{Answer}
+use Rattle.cqs_c_callers.specs.declared.answers.Answer.TheVariants as answer
+use Rattle.cqs_c_numbers.specs.declared.numbered.Numbered.{Numbered}
+use Rattle.cqs_c_callers.specs.declared.verb.Verb.TheVariants as verb
+use Rattle.cqs_c_numbers.specs.Answered.{IsAnswered}
+use Rattle.cqs_c_numbers.specs.Seats.{IsSplit, IsMet}
 use Rattle.cqs_c.specs.declared.answers.CqsAnswer.{CqsAnswer}
 use Rattle.cqs_c.specs.declared.calls.Deed.{Deed}
 use Rattle.cqs_c.specs.declared.calls.Deed.TheVariants.{With, Split, Meet}

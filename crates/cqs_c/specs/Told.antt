@@ -2,8 +2,8 @@
 use Rattle.std.specs.Prelude.{ℕ, ℤ, pos, negsuc, true, false, Some, None}
 use mir.Syntax.{w64}
 use Rattle.std.specs.Int.{cast_signed}
-use Rattle.cqs_callers.specs.declared.answers.Answer.{Answer}
-use Rattle.cqs_callers.specs.declared.answers.Answer.TheVariants as answer
+use Rattle.cqs_c_callers.specs.declared.answers.Answer.{Answer}
+use Rattle.cqs_c_callers.specs.declared.answers.Answer.TheVariants as answer
 use Rattle.cqs_c.specs.declared.answers.CqsAnswer.{CqsAnswer}
 
 -- an answer that carries no number, and one that carries one

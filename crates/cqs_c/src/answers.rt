@@ -4,7 +4,7 @@ ghost use Rattle.std.specs.Prelude.{◌≡◌};
 ghost use Rattle.cqs_c.specs.Answers.{no_object};
 ghost use Rattle.cqs_c.specs.Told.{bare as told_bare, with_count as told_count, with_wait as told_wait, told};
 
-use cqs_by_number::Answer;
+use cqs_c_numbers::Answer;
 
 /// An answer: which it is, by the names of `cqs.h`, and the number that it carries, or -1.
 #[repr(C)]

@@ -4,7 +4,7 @@ ghost use Rattle.std.specs.Prelude.{◌≡◌};
 ghost use Rattle.cqs_c.specs.Calls.{deed_at, IsMade, IsCalled};
 
 use crate::answers::{CqsAnswer, tell};
-use cqs_by_number::{Answer, Numbered, Verb};
+use cqs_c_numbers::{Answer, Numbered, Verb};
 
 /// What a call is, by its number: one with a pass, or another pass is made, or one taken in.
 enum Deed {

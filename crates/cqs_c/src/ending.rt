@@ -3,10 +3,10 @@
 ghost use Rattle.std.specs.Borrow.{sem, full_share};
 ghost use Rattle.std.specs.Ptr.{if_non_null, lies_at, room_at};
 ghost use denote.RawPtr.{Testable};
-ghost use Rattle.cqs_by_number.specs.contracts.numbered.Numbered.{the_row};
-ghost use Rattle.cqs_by_number.specs.declared.numbered.Numbered.{Numbered as Primitive};
+ghost use Rattle.cqs_c_numbers.specs.contracts.numbered.Numbered.{the_row};
+ghost use Rattle.cqs_c_numbers.specs.declared.numbered.Numbered.{Numbered as Primitive};
 
-use cqs_by_number::Numbered;
+use cqs_c_numbers::Numbered;
 
 pub(crate) fn let_go(primitive: Numbered) {
     drop(primitive);

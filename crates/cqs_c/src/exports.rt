@@ -8,14 +8,14 @@ ghost use Rattle.std.specs.Borrow.{sem, Share, lent_at};
 ghost use Rattle.std.specs.Ptr.{if_non_null};
 ghost use base.Fml.{Lft, flft};
 ghost use denote.RawPtr.{Testable};
-ghost use Rattle.cqs_by_number.specs.contracts.numbered.Numbered.{the_row};
-ghost use Rattle.cqs_by_number.specs.declared.numbered.Numbered.{Numbered as Primitive};
+ghost use Rattle.cqs_c_numbers.specs.contracts.numbered.Numbered.{the_row};
+ghost use Rattle.cqs_c_numbers.specs.declared.numbered.Numbered.{Numbered as Primitive};
 ghost use Rattle.cqs_c.specs.Answers.{Answers};
 ghost use Rattle.cqs_c.specs.Calls.{IsCalled};
 
 use crate::answers::{CqsAnswer, nowhere};
 use crate::calls;
-use cqs_by_number::Numbered;
+use cqs_c_numbers::Numbered;
 
 /// One call: which it is, the pass, and the number that it is given beside that: of a wait, or of a
 /// given pass.

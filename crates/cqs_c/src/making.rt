@@ -1,6 +1,6 @@
 //! How C gets a primitive.
 
-use cqs_by_number::Numbered;
+use cqs_c_numbers::Numbered;
 use cqs_rule::{CancelMode, Config, MakeError};
 use std::alloc::Global;
 

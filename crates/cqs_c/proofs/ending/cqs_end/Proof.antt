@@ -31,8 +31,8 @@ use denote.Triple.Spec.{Meets, triple_of}
 use denote.Triple.Table.{entered}
 use denote.Triple.Walked.{Stays, stay_dropped, walk_of, Goes-dropped, ends_at, walked, walk_Meets}
 use Rattle.std.specs.Ptr.{if_non_null}
-use Rattle.cqs_by_number.specs.contracts.numbered.Numbered.{the_row as R}
-use Rattle.cqs_by_number.proofs.numbered.Numbered.TheLaws.{the_row_laws, mir as shape}
+use Rattle.cqs_c_numbers.specs.contracts.numbered.Numbered.{the_row as R}
+use Rattle.cqs_c_numbers.proofs.numbered.Numbered.TheLaws.{the_row_laws, mir as shape}
 use Rattle.cqs_c.specs.contracts.ending.let_go as of
 use Rattle.cqs_c.proofs.ending.let_go.Symbol.{name as #of}
 use Rattle.cqs_c.proofs.ending.let_go.Met as of_thm

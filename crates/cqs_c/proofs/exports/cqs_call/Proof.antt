@@ -31,7 +31,7 @@ use denote.Triple.Spec.{Meets, triple_of}
 use denote.Triple.Table.{entered}
 use denote.Triple.Walked.{Stays, stay_dropped, walk_of, Goes-dropped, says, ends_at, walked, walk_Meets}
 use Rattle.std.specs.Ptr.{if_non_null}
-use Rattle.cqs_by_number.specs.contracts.numbered.Numbered.{the_row as R}
+use Rattle.cqs_c_numbers.specs.contracts.numbered.Numbered.{the_row as R}
 use Rattle.cqs_c.specs.contracts.answers.CqsAnswer.{the_row as A, the_type}
 use denote.Struct.Laws.{lawful}
 use Rattle.cqs_c.proofs.answers.CqsAnswer.TheLaws.{the_laws}

@@ -1,0 +1,138 @@
+-- What the answers of a call by number mean. A call is refused, for a cause that is the caller's,
+-- and leaves it as it was; or it was one call of the semaphore, whose answer is told, and of which
+-- all holds that its contract says.
+use Rattle.std.specs.Prelude.{◌≡◌, ◌≢◌, ◌⊎◌, ℕ, ◌≤◌, true, [], All, None, IsSome, Result, OnErr, IfOk, vec_len, vec_capacity}
+use Rattle.cqs_core.specs.declared.entries.Entry.{Entry}
+use Rattle.cqs_core.specs.SemaphoreShown.{state_of}
+use Rattle.cqs_rule_laws.specs.declared.config.AcquireError.{AcquireError}
+use Rattle.cqs_rule.specs.declared.queue.tokens.Wait.{Wait}
+use Rattle.cqs_rule_laws.specs.declared.view.View.{View}
+use Rattle.cqs_rule.specs.Passes.{pass_view}
+use Rattle.cqs_rule.specs.Waits.{place_of, HasWait}
+use Rattle.cqs_semaphore.specs.declared.answers.Acquired.{Acquired}
+use Rattle.cqs_semaphore.specs.declared.answers.Tried.{Tried}
+use Rattle.cqs_semaphore.specs.declared.answers.Released.{Released}
+use Rattle.cqs_semaphore.specs.declared.answers.Polled.{Polled}
+use Rattle.cqs_semaphore.specs.declared.answers.CancelAnswer.{CancelAnswer}
+use Rattle.cqs_semaphore.specs.Answers.{IsWorn, Acquires, Tries, IsPolled, Releases, Ends}
+use Rattle.cqs_semaphore.specs.Calls.{CallRule, plain_after}
+use Rattle.cqs_semaphore.specs.Entries.{acquired_entries, acquired_further, tried_entries, polled_entries, gave_entries, resumed_further}
+use Rattle.cqs_semaphore.specs.Seats.{LookedOn, SeesAll}
+use Rattle.cqs_semaphore.specs.Steps.{HasCancelled}
+use Rattle.cqs_c_callers.specs.declared.answers.Answer.{Answer}
+use Rattle.cqs_c_callers.specs.declared.answers.Answer.TheVariants as answer
+use Rattle.cqs_c_callers.specs.declared.semaphore_caller.SemaphoreCaller.{SemaphoreCaller}
+use Rattle.cqs_c_callers.specs.declared.verb.Verb.{Verb}
+use Rattle.cqs_c_callers.specs.declared.verb.Verb.TheVariants as verb
+use Rattle.cqs_c_callers.specs.SemaphoreTold.{told_acquired, told_tried, told_polled, told_cancelled, told_released}
+
+-- why a call is refused: the pass owes a resumption; or there is no room for its wait, it has no
+-- wait of the number, or it holds no permit; or it owes nothing that might be finished
+abbrev pub RefusesOwing : SemaphoreCaller → Answer → Type 0
+RefusesOwing c answer.Owes = IsSome c.under
+RefusesOwing c a = ⊥
+
+abbrev pub RefusesEnter : SemaphoreCaller → Answer → Type 0
+RefusesEnter c answer.Owes = IsSome c.under
+RefusesEnter c answer.Full = vec_capacity c.waits ≤ vec_len c.waits
+RefusesEnter c a = ⊥
+
+abbrev pub RefusesWait : ℕ → SemaphoreCaller → Answer → Type 0
+RefusesWait n c answer.Owes = IsSome c.under
+RefusesWait n c answer.NoWait = All (λ at. at.index ≢ n) c.waits.items
+RefusesWait n c a = ⊥
+
+abbrev pub RefusesLeave : SemaphoreCaller → Answer → Type 0
+RefusesLeave c answer.Owes = IsSome c.under
+RefusesLeave c answer.NoPermit = (pass_view c.pass).facts.has.held ≡ 0
+RefusesLeave c a = ⊥
+
+abbrev pub RefusesFinish : SemaphoreCaller → Answer → Type 0
+RefusesFinish c answer.OwesNothing = c.under ≡ None
+RefusesFinish c a = ⊥
+
+abbrev pub Refuses : Verb → ℕ → SemaphoreCaller → Answer → Type 0
+Refuses verb.Enter n c a = RefusesEnter c a
+Refuses verb.Try n c a = RefusesOwing c a
+Refuses verb.Poll n c a = RefusesWait n c a
+Refuses verb.Cancel n c a = RefusesWait n c a
+Refuses verb.Leave n c a = RefusesLeave c a
+Refuses verb.Finish n c a = RefusesFinish c a
+Refuses verb.State n c a = RefusesOwing c a
+Refuses verb.Sole n c a = ⊥
+
+module _ {T : Type 0} where
+  -- an acquire, of which this was told
+  pub record HasAcquired (v : View Entry T) (a : Answer) (w : View Entry T) : Type 0 where
+    pub given : Result Acquired AcquireError
+    pub told : a ≡ told_acquired given
+    pub called : CallRule v (acquired_entries v.number given) (acquired_further given) w
+    pub worn : OnErr given (IsWorn v w)
+    pub acquired : IfOk given (λ x. Acquires v x w)
+
+  -- a try
+  pub record HasTried (v : View Entry T) (a : Answer) (w : View Entry T) : Type 0 where
+    pub given : Tried
+    pub told : a ≡ told_tried given
+    pub called : CallRule v (tried_entries v.number given) [] w
+    pub tries : Tries v given w
+
+  -- a look at the wait of this number, which the pass had
+  pub record HasPolled (n : ℕ) (v : View Entry T) (a : Answer) (w : View Entry T) : Type 0 where
+    pub wait : Wait
+    pub has : HasWait v wait
+    pub number_is : (place_of wait).index ≡ n
+    pub given : Polled
+    pub told : a ≡ told_polled given
+    pub called : CallRule v (polled_entries v.number (place_of wait).index given) [] w
+    pub polled : IsPolled wait v given w
+
+  -- a cancel of the wait of this number, which the pass had
+  pub record HasGivenUp (n : ℕ) (v : View Entry T) (a : Answer) (w : View Entry T) : Type 0 where
+    pub wait : Wait
+    pub has : HasWait v wait
+    pub number_is : (place_of wait).index ≡ n
+    pub given : CancelAnswer
+    pub told : a ≡ told_cancelled given
+    pub cancelled : HasCancelled (place_of wait).index v given w
+
+  -- a release
+  pub record HasReleased (v : View Entry T) (a : Answer) (w : View Entry T) : Type 0 where
+    pub given : Released
+    pub told : a ≡ told_released given
+    pub called : CallRule v (gave_entries v.number given) (resumed_further given) w
+    pub released : Releases v given w
+
+  -- what was owed went on
+  pub record HasFinished (v : View Entry T) (a : Answer) (w : View Entry T) : Type 0 where
+    pub given : Released
+    pub told : a ≡ told_released given
+    pub called : CallRule v [] (resumed_further given) w
+    pub ends : Ends v v.facts.has.held v.facts.waits given w
+
+  -- the state, after all that the pass has seen
+  pub record HasRead (v : View Entry T) (a : Answer) (w : View Entry T) : Type 0 where
+    pub told : a ≡ answer.State (state_of (plain_after w))
+    pub called : CallRule v [] [] w
+
+  -- whether the pass is alone; then it has seen the whole history
+  pub record HasLooked (v : View Entry T) (a : Answer) (w : View Entry T) : Type 0 where
+    pub told : a ≡ answer.Sole w.alone
+    pub looked : LookedOn v w
+    pub others : w.alone ≡ true → SeesAll w
+
+  -- a call that wasn't refused
+  abbrev pub Makes : Verb → ℕ → View Entry T → Answer → View Entry T → Type 0
+  Makes verb.Enter n v a w = HasAcquired v a w
+  Makes verb.Try n v a w = HasTried v a w
+  Makes verb.Poll n v a w = HasPolled n v a w
+  Makes verb.Cancel n v a w = HasGivenUp n v a w
+  Makes verb.Leave n v a w = HasReleased v a w
+  Makes verb.Finish n v a w = HasFinished v a w
+  Makes verb.State n v a w = HasRead v a w
+  Makes verb.Sole n v a w = HasLooked v a w
+
+-- A call of this verb, with the number of a wait: it was refused, or made.
+abbrev pub IsAnswered : Verb → ℕ → SemaphoreCaller → Answer → SemaphoreCaller → Type 0
+IsAnswered v n c a d =
+    (Refuses v n c a × (d ≡ c)) ⊎ Makes v n (pass_view c.pass) a (pass_view d.pass)

@@ -1,7 +1,0 @@
-use Rattle.std.proofs.Common.{◌≢◌, ℕ, ◌<◌, slice_index_or}
-use Rattle.cqs_views.specs.declared.config.Place.{Place}
-use Rattle.cqs_callers.proofs.places.find.Given as goal
-
--- none of the waits before has the number
-abbrev pub invariant-loop-i : goal.invariant-loop-i
-invariant-loop-i l = (j : ℕ) → (d : Place) → j < l.i → (slice_index_or l.waits j d).index ≢ l.number

@@ -1,8 +1,11 @@
 //! Plans, and the floors that carry them out.
 //!
-//! A plan names resources and jobs. Each job takes, holds and gives resources, step by step,
-//! over a number of turns. `plans` has the types, one a file; `cqs_reader` reads them from bytes.
-//! A `Floor` is what carries out the steps of a plan's jobs.
+//! A plan names resources and jobs. Each job takes, holds and gives resources, step by step, over a
+//! number of turns. `plans` has the types, one a file; `cqs_plan_reader` reads a plan from bytes,
+//! and `fault_line` writes the line about bytes that are none.
+//!
+//! A `Floor` is what carries out the steps of a plan's jobs: what a job does with a resource is a
+//! call of the floor.
 #![tactic(auto)]
 
 mod floors;

@@ -6,13 +6,13 @@ use Rattle.cqs_core.proofs.EachAtLemmas.{EachAt-push}
 use Rattle.cqs_plan.specs.declared.plans.resource.Resource.{Resource}
 use Rattle.cqs_plan.specs.declared.plans.plan.Plan.{Plan}
 use Rattle.cqs_plan.specs.Floor.{PlainFloor, opening_floor}
-use Rattle.cqs_reports.specs.declared.states.JobState.{JobState}
-use Rattle.cqs_reports.specs.declared.states.Progress.TheVariants.{Stepping}
-use Rattle.cqs_reports.specs.Lines.{ends_text, total_text}
-use Rattle.cqs_reports.specs.Report.{report_after, summary_after}
+use Rattle.cqs_turns_report.specs.declared.states.JobState.{JobState}
+use Rattle.cqs_turns_report.specs.declared.states.Progress.TheVariants.{Stepping}
+use Rattle.cqs_turns_report.specs.Lines.{ends_text, total_text}
+use Rattle.cqs_turns_report.specs.Report.{report_after, summary_after}
 use Rattle.cqs_core.specs.Parts.{IsPrefix}
-use Rattle.cqs_reports.specs.Running.{IsOpening, AreOpening, machine_of}
-use Rattle.cqs_reports.specs.Turns.{Machine, opening_machine}
+use Rattle.cqs_turns_report.specs.Running.{IsOpening, AreOpening, machine_of}
+use Rattle.cqs_turns_report.specs.Turns.{Machine, opening_machine}
 
 -- the resources before `at` have their lines, after the text at the start
 pub record EndingOn (resources : List Resource) (at : ℕ) (f : PlainFloor) (start now : List ℕ) : Type 0 where

@@ -6,7 +6,7 @@ use Rattle.cqs_plan.specs.declared.plans.job.Job.{Job}
 use Rattle.cqs_plan.specs.declared.plans.step.Step.{Step}
 use Rattle.cqs_plan.specs.declared.plans.step.Step.TheVariants.{Take, Give, Down, Await, Arrive, Work}
 use Rattle.cqs_plan.specs.declared.plans.plan.Plan.{Plan}
-use Rattle.cqs_reports.specs.Report.{report_of}
+use Rattle.cqs_turns_report.specs.Report.{report_of}
 
 -- a plan of these jobs
 abbrev plan_of : ℕ → List Job → Plan

@@ -4,11 +4,11 @@ use Rattle.std.proofs.lemmas.List.{drop_more}
 use Rattle.cqs_plan.specs.Floor.{IsHolding, holds_of}
 use Rattle.cqs_plan.specs.FloorCalls.{give_answer}
 use Rattle.cqs_core.specs.Parts.{IsPrefix}
-use Rattle.cqs_reports.specs.Ready.{IsReady, is_held}
-use Rattle.cqs_reports.specs.Turns.{Role, Scene, on_give, after_gives, places_held}
-use Rattle.cqs_reports.proofs.Growth.{after_gives-grows}
-use Rattle.cqs_reports.proofs.Held.{oldest-there}
-use Rattle.cqs_reports.proofs.Readied.{first-given, first-ready}
+use Rattle.cqs_turns_report.specs.Ready.{IsReady, is_held}
+use Rattle.cqs_turns_report.specs.Turns.{Role, Scene, on_give, after_gives, places_held}
+use Rattle.cqs_turns_report.proofs.Growth.{after_gives-grows}
+use Rattle.cqs_turns_report.proofs.Held.{oldest-there}
+use Rattle.cqs_turns_report.proofs.Readied.{first-given, first-ready}
 
 -- the first i of all that the job held at the start have been given back
 pub record GivingBack (r : Role) (all : List ℕ) (i : ℕ) (start now : Scene) : Type 0 where

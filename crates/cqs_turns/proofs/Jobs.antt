@@ -8,17 +8,17 @@ use Rattle.cqs_core.proofs.Places.{get-set_here, get-set_else}
 use Rattle.cqs_plan.specs.declared.plans.plan.Plan.{Plan}
 use Rattle.cqs_plan.specs.Floor.{PlainFloor, holds_of}
 use Rattle.cqs_plan.specs.Runnable.{IsRunnable, kinds_of}
-use Rattle.cqs_reports.specs.declared.states.JobState.{JobState}
-use Rattle.cqs_reports.specs.declared.states.End.TheVariants as end
-use Rattle.cqs_reports.specs.declared.states.Progress.TheVariants.{Ended}
-use Rattle.cqs_reports.specs.Ready.{HasRoomFor, steps_left}
-use Rattle.cqs_reports.specs.Roles.{scene}
-use Rattle.cqs_reports.specs.Running.{IsRunning, IsKept, machine_of, turn_at}
+use Rattle.cqs_turns_report.specs.declared.states.JobState.{JobState}
+use Rattle.cqs_turns_report.specs.declared.states.End.TheVariants as end
+use Rattle.cqs_turns_report.specs.declared.states.Progress.TheVariants.{Ended}
+use Rattle.cqs_turns_report.specs.Ready.{HasRoomFor, steps_left}
+use Rattle.cqs_turns_report.specs.Roles.{scene}
+use Rattle.cqs_turns_report.specs.Running.{IsRunning, IsKept, machine_of, turn_at}
 use Rattle.cqs_turns.specs.States.{IsSet}
-use Rattle.cqs_reports.specs.Turns.{Role, Acted, Machine, after_acting, left_at, one_job, places_held}
-use Rattle.cqs_reports.proofs.Mapped.{get-map}
-use Rattle.cqs_reports.proofs.RunningLemmas.{room-of, running-on}
-use Rattle.cqs_reports.proofs.Turned.{Turned, after_acting-turned}
+use Rattle.cqs_turns_report.specs.Turns.{Role, Acted, Machine, after_acting, left_at, one_job, places_held}
+use Rattle.cqs_turns_report.proofs.Mapped.{get-map}
+use Rattle.cqs_turns_report.proofs.RunningLemmas.{room-of, running-on}
+use Rattle.cqs_turns_report.proofs.Turned.{Turned, after_acting-turned}
 
 -- the job r, with this state, is about to act on a running machine
 pub record Acting (plan : Plan) (r : Role) (f : PlainFloor) (text : List ℕ) (states : List JobState) (state : JobState)

@@ -7,9 +7,9 @@ use Rattle.cqs_core.proofs.Places.{get-there, get-below}
 use Rattle.cqs_plan.specs.declared.plans.job.Job.{Job}
 use Rattle.cqs_plan.specs.declared.plans.plan.Plan.{Plan}
 use Rattle.cqs_core.specs.Parts.{IsPrefix}
-use Rattle.cqs_reports.specs.Running.{turn_at}
-use Rattle.cqs_reports.specs.Turns.{Machine, one_job, each_job, one_turn}
-use Rattle.cqs_reports.proofs.Growth.{prefix-through, each_job-grows}
+use Rattle.cqs_turns_report.specs.Running.{turn_at}
+use Rattle.cqs_turns_report.specs.Turns.{Machine, one_job, each_job, one_turn}
+use Rattle.cqs_turns_report.proofs.Growth.{prefix-through, each_job-grows}
 
 -- the jobs before `place` have had their turns since the start
 pub record TurningOn (plan : Plan) (turn place : ℕ) (start now : Machine) : Type 0 where

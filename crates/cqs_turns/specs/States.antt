@@ -2,9 +2,9 @@
 use Rattle.std.specs.Prelude.{◌≡◌}
 use Rattle.cqs_plan.specs.Floor.{PlainFloor}
 use Rattle.cqs_plan.specs.Runnable.{kinds_of}
-use Rattle.cqs_reports.specs.declared.states.JobState.{JobState}
-use Rattle.cqs_reports.specs.Ready.{IsReady, wait_in, steps_left}
-use Rattle.cqs_reports.specs.Turns.{Role, places_held}
+use Rattle.cqs_turns_report.specs.declared.states.JobState.{JobState}
+use Rattle.cqs_turns_report.specs.Ready.{IsReady, wait_in, steps_left}
+use Rattle.cqs_turns_report.specs.Turns.{Role, places_held}
 
 -- the floor has the job as its state does, and the job can go on
 pub record IsSet (f : PlainFloor) (r : Role) (state : JobState) : Type 0 where

@@ -6,17 +6,17 @@ ghost use Rattle.cqs_core.specs.Keyed.{without};
 ghost use Rattle.cqs_plan.specs.Floor.{IsJob, IsHolding, IsHoldable};
 ghost use Rattle.cqs_plan.specs.FloorCalls.{take_answer, wait_answer, arrive_answer, leave_answer, look_answer};
 ghost use Rattle.cqs_plan.specs.Runnable.{kinds_of};
-ghost use Rattle.cqs_reports.specs.Machine.{rests};
-ghost use Rattle.cqs_reports.specs.Turns.{after_acting, on_give, on_down, after_gives, after_taking, after_waiting, after_arriving, after_step, event, left_at, after_last_step, go_on, on_leave, after_giving_up, end_of, after_looking, places_held};
-ghost use Rattle.cqs_reports.specs.Ready.{IsReady, HasRoom, HasRoomFor, steps_left, with_place};
-ghost use Rattle.cqs_reports.specs.Coming.{ComesTo, LeavesAt, LeavesFrom, Makes, text_acted, text_in};
-ghost use Rattle.cqs_reports.specs.declared.states.Progress.TheVariants.{Waiting};
-ghost use Rattle.cqs_reports.specs.Roles.{role, scene, made_of, wait_at, left_with, told_served, is_holdable_at};
+ghost use Rattle.cqs_turns_report.specs.Machine.{rests};
+ghost use Rattle.cqs_turns_report.specs.Turns.{after_acting, on_give, on_down, after_gives, after_taking, after_waiting, after_arriving, after_step, event, left_at, after_last_step, go_on, on_leave, after_giving_up, end_of, after_looking, places_held};
+ghost use Rattle.cqs_turns_report.specs.Ready.{IsReady, HasRoom, HasRoomFor, steps_left, with_place};
+ghost use Rattle.cqs_turns_report.specs.Coming.{ComesTo, LeavesAt, LeavesFrom, Makes, text_acted, text_in};
+ghost use Rattle.cqs_turns_report.specs.declared.states.Progress.TheVariants.{Waiting};
+ghost use Rattle.cqs_turns_report.specs.Roles.{role, scene, made_of, wait_at, left_with, told_served, is_holdable_at};
 ghost use Rattle.cqs_turns.specs.States.{IsSet};
 
 use cqs_core::Memory;
 use cqs_plan::{Floor, FloorLeave, FloorLook, FloorTake, Step};
-use cqs_reports::{
+use cqs_turns_report::{
     Actor, End, JobState, Progress, Report, Told, told_of_arrival, told_of_down, told_of_give,
     told_of_leave, told_of_take, told_of_wait,
 };

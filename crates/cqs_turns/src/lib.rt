@@ -1,13 +1,13 @@
-//! The turn machine and its report: what the jobs of a plan do on a floor, turn by turn.
+//! The turn machine, which runs a plan and writes its report.
 //!
-//! Each turn lets the jobs act in order. A job acts until it works, waits or has ended,
-//! and every event is one line of the report. After the last turn come a line for each
-//! resource and the totals.
+//! In each turn the jobs act in order. A job makes its steps until it works, must wait or has
+//! ended, and each event is one line of the report. After the last turn come a line for each
+//! resource and the totals. What a job does with a resource is a call of the floor.
 #![tactic(auto)]
 
 mod acts;
 mod runs;
 mod turns;
 
-pub use cqs_reports::{Actor, End, JobState, Progress, Report};
+pub use cqs_turns_report::{Actor, End, JobState, Progress, Report};
 pub use runs::{run_plan, summarize_plan};

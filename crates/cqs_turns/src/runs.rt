@@ -4,16 +4,16 @@ ghost use Rattle.std.specs.Prelude.{◌≡◌, ◌++◌, [], length, vec_len, If
 ghost use Rattle.cqs_plan.specs.Floor.{opening_floor};
 ghost use Rattle.cqs_plan.specs.LegalFloor.{IsLegalFloor, IsLegalFor};
 ghost use Rattle.cqs_plan.specs.Runnable.{IsRunnable, kinds_of};
-ghost use Rattle.cqs_reports.specs.Lines.{ends_text};
+ghost use Rattle.cqs_turns_report.specs.Lines.{ends_text};
 ghost use Rattle.cqs_core.specs.Parts.{IsPrefix};
-ghost use Rattle.cqs_reports.specs.Report.{report_of, summary_of};
-ghost use Rattle.cqs_reports.specs.Running.{IsRunning, IsKept, machine_of, IsOpening, AreOpening};
-ghost use Rattle.cqs_reports.specs.Turns.{machine_after, opening_machine};
+ghost use Rattle.cqs_turns_report.specs.Report.{report_of, summary_of};
+ghost use Rattle.cqs_turns_report.specs.Running.{IsRunning, IsKept, machine_of, IsOpening, AreOpening};
+ghost use Rattle.cqs_turns_report.specs.Turns.{machine_after, opening_machine};
 
 use crate::turns::one_turn;
 use cqs_core::Memory;
 use cqs_plan::{Floor, Job, Plan, Step};
-use cqs_reports::{JobState, Progress, Report};
+use cqs_turns_report::{JobState, Progress, Report};
 use std::alloc::Global;
 
 /// A job that hasn't begun, with memory for all that it takes.

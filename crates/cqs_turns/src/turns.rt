@@ -3,14 +3,14 @@
 ghost use Rattle.std.specs.Prelude.{◌≡◌, ◌≤◌, ◌<◌, Some, length, slice_get, OnOk, OnErr};
 ghost use Rattle.cqs_plan.specs.Runnable.{IsRunnable};
 ghost use Rattle.cqs_core.specs.Parts.{IsPrefix};
-ghost use Rattle.cqs_reports.specs.Roles.{role};
-ghost use Rattle.cqs_reports.specs.Running.{IsRunning, IsKept, machine_of, turn_at};
-ghost use Rattle.cqs_reports.specs.Turns.{one_turn};
+ghost use Rattle.cqs_turns_report.specs.Roles.{role};
+ghost use Rattle.cqs_turns_report.specs.Running.{IsRunning, IsKept, machine_of, turn_at};
+ghost use Rattle.cqs_turns_report.specs.Turns.{one_turn};
 
 use crate::acts::act;
 use cqs_core::Memory;
 use cqs_plan::{Floor, Plan};
-use cqs_reports::{Actor, JobState, Report};
+use cqs_turns_report::{Actor, JobState, Report};
 
 /// The job at this place, in this turn.
 fn actor_at(plan: &Plan, turn: u32, place: u32) -> Actor<'_>

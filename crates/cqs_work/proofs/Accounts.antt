@@ -1,7 +1,5 @@
 -- What a worker came to and has no more, beside what its jobs have, over each of its calls.
 use Rattle.std.proofs.Common.{◌≡◌, ◌≢◌, ◌⊎◌, inl, inr, ℕ, ◌+◌, ◌<◌, ◌==◌, Bool, true, false, cond, List, [], ◌∷◌, ◌++◌, Option, Some, None, IsSome, length, set, slice_get, sum_by, refl, ap, sym, ◌∙◌, subst, arith, eq-eqb, ne_eqb}
-use Rattle.std.specs.Bool.{if◌then◌else◌}
-use Rattle.std.specs.Option.{option_map_or}
 use Rattle.std.proofs.lemmas.Bool.{cases_eq}
 use Rattle.std.proofs.lemmas.List.{length-set}
 use Rattle.std.proofs.lemmas.List.Elements.{filter-append}
@@ -13,23 +11,17 @@ use Rattle.cqs_core.proofs.Places.{get-below}
 use Rattle.cqs_pool_object.specs.PoolNames.{entry_names as element_names}
 use Rattle.cqs_plan.specs.declared.floors.answers.FloorTake.{FloorTake}
 use Rattle.cqs_plan.specs.declared.floors.answers.FloorTake.TheVariants.{Now, Waits}
-use Rattle.cqs_plan.specs.declared.floors.answers.FloorLook.{FloorLook}
-use Rattle.cqs_plan.specs.declared.floors.answers.FloorLook.TheVariants.{Pending, Granted}
-use Rattle.cqs_plan.specs.declared.floors.answers.FloorLeave.{FloorLeave}
-use Rattle.cqs_plan.specs.declared.floors.answers.FloorLeave.TheVariants.{Gone, Late}
 use Rattle.cqs_plan.specs.declared.floors.answers.FloorDown.{FloorDown}
 use Rattle.cqs_plan.specs.declared.plans.kind.Kind.{Kind}
 use Rattle.cqs_plan.specs.declared.plans.kind.Kind.TheVariants as kind
-use Rattle.cqs_plan.specs.Language.{can_hold}
-use Rattle.cqs_plan.specs.Floor.{PlainFloor, JobWait, Holding, IsJob, IsHolding, IsIdle, IsHoldable, IsLatch, HasRound, holds_of, wait_of, round_of, oldest, is_holdable, with_done_in, with_wait}
-use Rattle.cqs_plan.specs.FloorCalls.{after_look, after_leave, with_granted, with_left}
-use Rattle.cqs_plan.specs.FloorHistory.{History, of_permits, of_elements, of_latch, of_rounds, Deed, gets, is_late}
-use Rattle.cqs_shared.specs.declared.shared.SharedGive.{SharedGive}
-use Rattle.cqs_shared.specs.declared.shared.SharedGive.TheVariants as shared
-use Rattle.cqs_shared.specs.Entries.{Entries, AreOf, at_permits, at_elements, at_latch, in_round, with_entries, own_entries}
-use Rattle.cqs_shared.specs.AnswerEntries.{came_entries, give_entries, look_entries, leave_entries, unless_came}
-use Rattle.cqs_shared.specs.Shared.{Shared, Sees, seen_at, kind_at, came_of}
-use Rattle.cqs_shared.specs.Calls.{Takes, Gives, Looks, Leaves, Downs, Waits as Waits_at, Arrives, IsDrawn, IsLate, board_taken, board_waited, board_arrived, board_given, element_held}
+use Rattle.cqs_plan.specs.Floor.{PlainFloor, JobWait, Holding, IsJob, IsHolding, IsIdle, IsHoldable, IsLatch, HasRound, holds_of, wait_of, round_of, oldest}
+use Rattle.cqs_plan.specs.FloorHistory.{History, of_permits, of_elements, of_latch, of_rounds}
+use Rattle.cqs_floor_shared.specs.declared.shared.SharedGive.{SharedGive}
+use Rattle.cqs_floor_shared.specs.declared.shared.SharedGive.TheVariants as shared
+use Rattle.cqs_floor_shared.specs.Entries.{Entries, AreOf, at_permits, at_elements, at_latch, in_round, with_entries, own_entries}
+use Rattle.cqs_floor_shared.specs.AnswerEntries.{came_entries, give_entries}
+use Rattle.cqs_floor_shared.specs.Shared.{Shared, Sees, seen_at, kind_at}
+use Rattle.cqs_floor_shared.specs.Calls.{Takes, Gives, Downs, Waits as Waits_at, Arrives, IsDrawn, board_taken, board_waited, board_arrived, board_given, element_held}
 use Rattle.cqs_work.specs.Accounts.{Weights, gains, losses, doors, enters, sum_of, sum_in, waits_at, held_at, count_at, IsAccounted}
 use Rattle.cqs_work.specs.Later.{Later}
 use Rattle.cqs_work.proofs.Lasting.{seen-all, seen-here, seen-else, sees-later}
@@ -82,7 +74,7 @@ module _ (f : Shared) (at : ℕ) (entries : Entries) (g : Shared) (sees : Sees f
       ∙ ap (sum_in w f.number) (seen-else f at entries g sees q other)
 
   -- what a call adds to either side
-  later-by : (IsHoldable (kind_at f at)
+  pub later-by : (IsHoldable (kind_at f at)
       → sum_of gains entries + count_at f.board at ≡ sum_of losses entries + count_at g.board at)
       → ((q : ℕ) → q ≢ at → count_at g.board q ≡ count_at f.board q) → sum_of enters entries ≡ sum_of doors entries
       → Later f g
@@ -117,16 +109,16 @@ module _ (f : Shared) (at : ℕ) (entries : Entries) (g : Shared) (sees : Sees f
           omega (arith, sum-else gains q other, sum-else losses q other, acc.even q holdable, elsewhere q other)
 
 -- one more or fewer of what a job has
-abbrev one : Bool → ℕ
+abbrev pub one : Bool → ℕ
 one b = cond {A = ℕ} b 1 0
 
-one-here : (q : ℕ) → one (q == q) ≡ 1
+pub one-here : (q : ℕ) → one (q == q) ≡ 1
 one-here q = ap (λ b. cond {A = ℕ} b 1 0) (eq-eqb q q refl)
 
-one-else : (at q : ℕ) → q ≢ at → one (at == q) ≡ 0
+pub one-else : (at q : ℕ) → q ≢ at → one (at == q) ≡ 0
 one-else at q other = ap (λ b. cond {A = ℕ} b 1 0) (ne_eqb at q (λ e. other (sym e)))
 
-held-newest : (q at element : ℕ) (holds : List Holding)
+pub held-newest : (q at element : ℕ) (holds : List Holding)
     → held_at q (holds ++ record { at = at; element = element } ∷ []) ≡ held_at q holds + one (at == q)
 held-newest q at element holds = sum_by_push (λ h. one (h.at == q)) holds (record { at = at; element = element })
 
@@ -156,12 +148,12 @@ held-without q at (h ∷ holds) some = go (cases_eq h.at at) (λ there. held-wit
 
 module _ (b : PlainFloor) (job : ℕ) (is_job : IsJob b job) where
   -- a job that holds this, or has this wait
-  holds-set : (q : ℕ) (holds : List Holding)
+  pub holds-set : (q : ℕ) (holds : List Holding)
       → sum_by (held_at q) (set b.holds job holds) + held_at q (holds_of b job)
       ≡ sum_by (held_at q) b.holds + held_at q holds
   holds-set q holds = sum_by-set (held_at q) b.holds job holds [] is_job.holds
 
-  waits-set : (q : ℕ) (wait : Option JobWait)
+  pub waits-set : (q : ℕ) (wait : Option JobWait)
       → sum_by (waits_at q) (set b.waits job wait) + waits_at q (wait_of b job)
       ≡ sum_by (waits_at q) b.waits + waits_at q wait
   waits-set q wait = sum_by-set (waits_at q) b.waits job wait None is_job.waits
@@ -424,233 +416,3 @@ give-later f at job got g gives holdable is_job holding =
       one-else at q other,
     ))
     adds.entered
-
--- what was waited for came
-holdable-then : (k : Option Kind) → IsHoldable k → option_map_or can_hold k false ≡ true
-holdable-then (Some (kind.Semaphore permits)) holdable = refl
-holdable-then (Some kind.Mutex) holdable = refl
-holdable-then (Some (kind.Pool elements)) holdable = refl
-holdable-then (Some (kind.Latch count)) holdable = absurd holdable
-holdable-then (Some (kind.Rounds parties rounds)) holdable = absurd holdable
-holdable-then None holdable = absurd holdable
-
-module _ (b : PlainFloor) (job : ℕ) (wait : JobWait) (is_job : IsJob b job) (waits : wait_of b job ≡ Some wait) where
-  wait-gone : (q : ℕ) → sum_by (waits_at q) (set b.waits job None) + one (wait.at == q) ≡ sum_by (waits_at q) b.waits
-  wait-gone q =
-      let had : waits_at q (wait_of b job) ≡ one (wait.at == q) = ap (waits_at q) waits in
-      omega (arith, waits-set b job is_job q None, had)
-
-  module _ (deed : ℕ → ℕ → Deed) (element : ℕ) where
-    abbrev over : PlainFloor
-    over = with_wait (with_done_in b wait.at wait.round (deed wait.number element)) job None
-
-    abbrev newest : List Holding
-    newest = holds_of b job ++ record { at = wait.at; element = element } ∷ []
-
-    abbrev granted : Bool → PlainFloor
-    granted h = if h then record over { holds = set b.holds job newest } else over
-
-    is-granted : (q : ℕ) → count_at (with_granted b job deed (wait_of b job) element) q
-        ≡ count_at (granted (is_holdable b wait.at)) q
-    is-granted q = ap (λ w. count_at (with_granted b job deed w element) q) waits
-
-    came-here : IsHoldable (slice_get b.kinds wait.at)
-        → count_at (with_granted b job deed (wait_of b job) element) wait.at ≡ count_at b wait.at
-    came-here holdable =
-        let all : count_at (granted true) wait.at
-        ≡ sum_by (held_at wait.at) (set b.holds job newest) + sum_by (waits_at wait.at) (set b.waits job None)
-        = refl in
-        is-granted wait.at
-        ∙ ap (λ h. count_at (granted h) wait.at) (holdable-then (slice_get b.kinds wait.at) holdable)
-        ∙ omega (
-          arith,
-          all,
-          one-here wait.at,
-          wait-gone wait.at,
-          holds-set b job is_job wait.at newest,
-          held-newest wait.at wait.at element (holds_of b job),
-        )
-
-    granted-else : (q : ℕ) → q ≢ wait.at → (h : Bool) → count_at (granted h) q ≡ count_at b q
-    granted-else q other true =
-        let all : count_at (granted true) q
-        ≡ sum_by (held_at q) (set b.holds job newest) + sum_by (waits_at q) (set b.waits job None)
-        = refl in
-        omega (
-          arith,
-          all,
-          wait-gone q,
-          holds-set b job is_job q newest,
-          held-newest q wait.at element (holds_of b job),
-          one-else wait.at q other,
-        )
-    granted-else q other false =
-        let all : count_at (granted false) q
-        ≡ sum_by (held_at q) b.holds + sum_by (waits_at q) (set b.waits job None)
-        = refl in
-        omega (arith, all, wait-gone q, one-else wait.at q other)
-
-    came-else : (q : ℕ) → q ≢ wait.at → count_at (with_granted b job deed (wait_of b job) element) q ≡ count_at b q
-    came-else q other = is-granted q ∙ granted-else q other (is_holdable b wait.at)
-
-    granted-kinds : (h : Bool) → (granted h).kinds ≡ b.kinds
-    granted-kinds true = refl
-    granted-kinds false = refl
-
-    came-kinds : (with_granted b job deed (wait_of b job) element).kinds ≡ b.kinds
-    came-kinds = ap (λ w. (with_granted b job deed w element).kinds) waits ∙ granted-kinds (is_holdable b wait.at)
-
-  looked-here : (got : FloorLook) → IsHoldable (slice_get b.kinds wait.at)
-      → count_at (after_look b job got) wait.at ≡ count_at b wait.at
-  looked-here Pending holdable = refl
-  looked-here (Granted element) holdable = came-here gets element holdable
-
-  looked-else : (got : FloorLook) (q : ℕ) → q ≢ wait.at → count_at (after_look b job got) q ≡ count_at b q
-  looked-else Pending q other = refl
-  looked-else (Granted element) q other = came-else gets element q other
-
-  looked-kinds : (got : FloorLook) → (after_look b job got).kinds ≡ b.kinds
-  looked-kinds Pending = refl
-  looked-kinds (Granted element) = came-kinds gets element
-
--- a look: entries that neither gain nor lose
-record AddsNone (entries : Entries) : Type 0 where
-  pub gained : sum_of gains entries ≡ 0
-  pub lost : sum_of losses entries ≡ 0
-  pub entered : sum_of enters entries ≡ sum_of doors entries
-
-looked-adds : (came : Bool) (k : Option Kind) (round c n : ℕ) (got : FloorLook)
-    → AddsNone (unless_came came (look_entries k round c n got))
-looked-adds true (Some (kind.Semaphore permits)) round c n got = record { gained = refl; lost = refl; entered = refl }
-looked-adds true (Some kind.Mutex) round c n got = record { gained = refl; lost = refl; entered = refl }
-looked-adds true (Some (kind.Pool elements)) round c n got = record { gained = refl; lost = refl; entered = refl }
-looked-adds true (Some (kind.Latch count)) round c n got = record { gained = refl; lost = refl; entered = refl }
-looked-adds true (Some (kind.Rounds parties rounds)) round c n got =
-    record { gained = refl; lost = refl; entered = refl }
-looked-adds true None round c n got = record { gained = refl; lost = refl; entered = refl }
-looked-adds false (Some (kind.Semaphore permits)) round c n Pending =
-    record { gained = refl; lost = refl; entered = refl }
-looked-adds false (Some (kind.Semaphore permits)) round c n (Granted e) =
-    record { gained = refl; lost = refl; entered = refl }
-looked-adds false (Some kind.Mutex) round c n Pending = record { gained = refl; lost = refl; entered = refl }
-looked-adds false (Some kind.Mutex) round c n (Granted e) = record { gained = refl; lost = refl; entered = refl }
-looked-adds false (Some (kind.Pool elements)) round c n Pending = record { gained = refl; lost = refl; entered = refl }
-looked-adds false (Some (kind.Pool elements)) round c n (Granted e) =
-    record { gained = refl; lost = refl; entered = refl }
-looked-adds false (Some (kind.Latch count)) round c n got = record { gained = refl; lost = refl; entered = refl }
-looked-adds false (Some (kind.Rounds parties rounds)) round c n got =
-    record { gained = refl; lost = refl; entered = refl }
-looked-adds false None round c n got = record { gained = refl; lost = refl; entered = refl }
-
-pub look-later : (f : Shared) (job : ℕ) (wait : JobWait) (got : FloorLook) (g : Shared) → Looks f job wait got g
-    → IsJob f.board job → wait_of f.board job ≡ Some wait → Later f g
-look-later f job wait got g looks is_job waits =
-    let adds = looked-adds (came_of f job) (kind_at f wait.at) wait.round f.number wait.number got in
-    later-by f wait.at _ g looks.sees
-    (ap (λ b. b.kinds) looks.board ∙ looked-kinds f.board job wait is_job waits got)
-    (λ holdable. omega (
-      arith,
-      adds.gained,
-      adds.lost,
-      ap (λ b. count_at b wait.at) looks.board,
-      looked-here f.board job wait is_job waits got holdable,
-    ))
-    (λ q other. ap (λ b. count_at b q) looks.board ∙ looked-else f.board job wait is_job waits got q other) adds.entered
-
--- a leave: a wait that is gone is lost, and one that was late came
-abbrev left_ones : FloorLeave → ℕ
-left_ones Gone = 1
-left_ones (Late element) = 0
-
-record LeftAdds (entries : Entries) (ones : ℕ) : Type 0 where
-  pub gained : sum_of gains entries ≡ 0
-  pub lost : sum_of losses entries ≡ ones
-  pub entered : sum_of enters entries ≡ sum_of doors entries
-
-left-adds : (came : Bool) (k : Option Kind) (round c n : ℕ) (got : FloorLeave) (stays : Bool) → IsLate came got
-    → IsHoldable k → LeftAdds (unless_came came (leave_entries k round c n got stays)) (left_ones got)
-left-adds true k round c n Gone stays late holdable = absurd late
-left-adds true (Some (kind.Semaphore permits)) round c n (Late e) stays late holdable =
-    record { gained = refl; lost = refl; entered = refl }
-left-adds true (Some kind.Mutex) round c n (Late e) stays late holdable =
-    record { gained = refl; lost = refl; entered = refl }
-left-adds true (Some (kind.Pool elements)) round c n (Late e) stays late holdable =
-    record { gained = refl; lost = refl; entered = refl }
-left-adds true (Some (kind.Latch count)) round c n (Late e) stays late holdable = absurd holdable
-left-adds true (Some (kind.Rounds parties rounds)) round c n (Late e) stays late holdable = absurd holdable
-left-adds true None round c n (Late e) stays late holdable = absurd holdable
-left-adds false (Some (kind.Semaphore permits)) round c n Gone stays late holdable =
-    record { gained = refl; lost = refl; entered = refl }
-left-adds false (Some (kind.Semaphore permits)) round c n (Late e) stays late holdable =
-    record { gained = refl; lost = refl; entered = refl }
-left-adds false (Some kind.Mutex) round c n Gone stays late holdable =
-    record { gained = refl; lost = refl; entered = refl }
-left-adds false (Some kind.Mutex) round c n (Late e) stays late holdable =
-    record { gained = refl; lost = refl; entered = refl }
-left-adds false (Some (kind.Pool elements)) round c n Gone stays late holdable =
-    record { gained = refl; lost = refl; entered = refl }
-left-adds false (Some (kind.Pool elements)) round c n (Late e) stays late holdable =
-    record { gained = refl; lost = refl; entered = refl }
-left-adds false (Some (kind.Latch count)) round c n got stays late holdable = absurd holdable
-left-adds false (Some (kind.Rounds parties rounds)) round c n got stays late holdable = absurd holdable
-left-adds false None round c n got stays late holdable = absurd holdable
-
-left-doors : (came : Bool) (k : Option Kind) (round c n : ℕ) (got : FloorLeave) (stays : Bool)
-    → sum_of enters (unless_came came (leave_entries k round c n got stays))
-    ≡ sum_of doors (unless_came came (leave_entries k round c n got stays))
-left-doors true (Some (kind.Semaphore permits)) round c n got stays = refl
-left-doors true (Some kind.Mutex) round c n got stays = refl
-left-doors true (Some (kind.Pool elements)) round c n got stays = refl
-left-doors true (Some (kind.Latch count)) round c n got stays = refl
-left-doors true (Some (kind.Rounds parties rounds)) round c n got stays = refl
-left-doors true None round c n got stays = refl
-left-doors false (Some (kind.Semaphore permits)) round c n Gone stays = refl
-left-doors false (Some (kind.Semaphore permits)) round c n (Late e) stays = refl
-left-doors false (Some kind.Mutex) round c n Gone stays = refl
-left-doors false (Some kind.Mutex) round c n (Late e) stays = refl
-left-doors false (Some (kind.Pool elements)) round c n Gone stays = refl
-left-doors false (Some (kind.Pool elements)) round c n (Late e) stays = refl
-left-doors false (Some (kind.Latch count)) round c n got stays = refl
-left-doors false (Some (kind.Rounds parties rounds)) round c n got stays = refl
-left-doors false None round c n got stays = refl
-
-module _ (b : PlainFloor) (job : ℕ) (wait : JobWait) (is_job : IsJob b job) (waits : wait_of b job ≡ Some wait) where
-  left-here : (got : FloorLeave) → IsHoldable (slice_get b.kinds wait.at)
-      → count_at (after_leave b job got) wait.at + left_ones got ≡ count_at b wait.at
-  left-here Gone holdable =
-      let gone : count_at (after_leave b job Gone) wait.at
-      ≡ sum_by (held_at wait.at) b.holds + sum_by (waits_at wait.at) (set b.waits job None)
-      = ap (λ w. count_at (with_left b job w) wait.at) waits in
-      omega (arith, gone, wait-gone b job wait is_job waits wait.at, one-here wait.at)
-  left-here (Late element) holdable = omega (arith, came-here b job wait is_job waits is_late element holdable)
-
-  left-else : (got : FloorLeave) (q : ℕ) → q ≢ wait.at → count_at (after_leave b job got) q ≡ count_at b q
-  left-else Gone q other =
-      let gone : count_at (after_leave b job Gone) q
-      ≡ sum_by (held_at q) b.holds + sum_by (waits_at q) (set b.waits job None)
-      = ap (λ w. count_at (with_left b job w) q) waits in
-      omega (arith, gone, wait-gone b job wait is_job waits q, one-else wait.at q other)
-  left-else (Late element) q other = came-else b job wait is_job waits is_late element q other
-
-  left-kinds : (got : FloorLeave) → (after_leave b job got).kinds ≡ b.kinds
-  left-kinds Gone = ap (λ w. (with_left b job w).kinds) waits
-  left-kinds (Late element) = came-kinds b job wait is_job waits is_late element
-
-pub leave-later : (f : Shared) (job : ℕ) (wait : JobWait) (got : FloorLeave) (g : Shared)
-    → Leaves f job wait got g → IsJob f.board job → wait_of f.board job ≡ Some wait → Later f g
-leave-later f job wait got g leaves is_job waits =
-    let k : Option Kind = kind_at f wait.at in
-    later-by f wait.at _ g leaves.sees
-    (ap (λ b. b.kinds) leaves.board ∙ left-kinds f.board job wait is_job waits got)
-    (λ holdable.
-    let adds
-    = left-adds (came_of f job) k wait.round f.number wait.number got leaves.stays leaves.found holdable in
-    omega (
-      arith,
-      adds.gained,
-      adds.lost,
-      ap (λ b. count_at b wait.at) leaves.board,
-      left-here f.board job wait is_job waits got holdable,
-    ))
-    (λ q other. ap (λ b. count_at b q) leaves.board ∙ left-else f.board job wait is_job waits got q other)
-    (left-doors (came_of f job) k wait.round f.number wait.number got leaves.stays)

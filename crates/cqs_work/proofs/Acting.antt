@@ -7,17 +7,17 @@ use Rattle.std.proofs.lemmas.Option.{slice_get-get_or}
 use Rattle.cqs_plan.specs.declared.plans.step.Step.{Step}
 use Rattle.cqs_plan.specs.declared.floors.answers.FloorLeave.{FloorLeave}
 use Rattle.cqs_plan.specs.declared.floors.answers.FloorLeave.TheVariants.{Gone, Late}
-use Rattle.cqs_reports.specs.declared.actors.Actor.{Actor}
-use Rattle.cqs_reports.specs.declared.states.End.{End}
-use Rattle.cqs_reports.specs.declared.states.End.TheVariants as end
-use Rattle.cqs_reports.specs.declared.states.Progress.{Progress}
-use Rattle.cqs_reports.specs.declared.states.Progress.TheVariants.{Stepping, Working, Waiting, Ended}
-use Rattle.cqs_reports.specs.Machine.{MadeIn, ActedIn, stop_or, end_of, left_at, is_due}
-use Rattle.cqs_reports.specs.Machine as machine
-use Rattle.cqs_reports.specs.Ready.{steps_left}
-use Rattle.cqs_reports.specs.Roles.{role}
-use Rattle.cqs_reports.specs.Turns.{places_held}
-use Rattle.cqs_reports.proofs.Readied.{ready-to-end}
+use Rattle.cqs_turns_report.specs.declared.actors.Actor.{Actor}
+use Rattle.cqs_turns_report.specs.declared.states.End.{End}
+use Rattle.cqs_turns_report.specs.declared.states.End.TheVariants as end
+use Rattle.cqs_turns_report.specs.declared.states.Progress.{Progress}
+use Rattle.cqs_turns_report.specs.declared.states.Progress.TheVariants.{Stepping, Working, Waiting, Ended}
+use Rattle.cqs_turns_report.specs.Machine.{MadeIn, ActedIn, stop_or, end_of, left_at, is_due}
+use Rattle.cqs_turns_report.specs.Machine as machine
+use Rattle.cqs_turns_report.specs.Ready.{steps_left}
+use Rattle.cqs_turns_report.specs.Roles.{role}
+use Rattle.cqs_turns_report.specs.Turns.{places_held}
+use Rattle.cqs_turns_report.proofs.Readied.{ready-to-end}
 use Rattle.cqs_work.specs.Desk.{Desk}
 use Rattle.cqs_work.specs.Heard.{Heard, Hears, heard, heard_world}
 use Rattle.cqs_work.specs.Heard as answer

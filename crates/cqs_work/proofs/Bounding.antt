@@ -4,11 +4,11 @@ use Rattle.std.specs.Bool.{if◌then◌else◌}
 use Rattle.std.proofs.lemmas.Bool.{cases_eq}
 use Rattle.cqs_plan.specs.declared.plans.job.Job.{Job}
 use Rattle.cqs_plan.specs.declared.plans.plan.Plan.{Plan}
-use Rattle.cqs_reports.specs.declared.states.End.TheVariants as end
-use Rattle.cqs_reports.specs.declared.states.Progress.{Progress}
-use Rattle.cqs_reports.specs.declared.states.Progress.TheVariants.{Stepping, Working, Waiting, Ended}
+use Rattle.cqs_turns_report.specs.declared.states.End.TheVariants as end
+use Rattle.cqs_turns_report.specs.declared.states.Progress.{Progress}
+use Rattle.cqs_turns_report.specs.declared.states.Progress.TheVariants.{Stepping, Working, Waiting, Ended}
 use Rattle.cqs_plan.specs.FloorHistory.{History, of_permits, of_elements, of_latch, of_rounds}
-use Rattle.cqs_shared.specs.Entries.{own_history}
+use Rattle.cqs_floor_shared.specs.Entries.{own_history}
 use Rattle.cqs_work.specs.declared.ends.JobEnd.{JobEnd}
 use Rattle.cqs_work.specs.Accounts.{Weights, sum_in}
 use Rattle.cqs_work.specs.Courses.{made_by, left_by}

@@ -9,13 +9,13 @@ use Rattle.cqs_core.proofs.Histories.{take-next}
 use Rattle.cqs_plan.specs.declared.plans.job.Job.{Job}
 use Rattle.cqs_plan.specs.declared.plans.step.Step.{Step}
 use Rattle.cqs_plan.specs.PlanSteps.{is_take}
-use Rattle.cqs_reports.specs.declared.states.End.{End}
-use Rattle.cqs_reports.specs.declared.states.End.TheVariants as end
-use Rattle.cqs_reports.specs.declared.states.Progress.{Progress}
-use Rattle.cqs_reports.specs.declared.states.Progress.TheVariants.{Stepping, Working, Waiting, Ended}
-use Rattle.cqs_reports.specs.Machine.{is_due}
-use Rattle.cqs_shared.specs.Entries.{IsBefore}
-use Rattle.cqs_shared.specs.Shared.{seen_at, came_of}
+use Rattle.cqs_turns_report.specs.declared.states.End.{End}
+use Rattle.cqs_turns_report.specs.declared.states.End.TheVariants as end
+use Rattle.cqs_turns_report.specs.declared.states.Progress.{Progress}
+use Rattle.cqs_turns_report.specs.declared.states.Progress.TheVariants.{Stepping, Working, Waiting, Ended}
+use Rattle.cqs_turns_report.specs.Machine.{is_due}
+use Rattle.cqs_floor_shared.specs.Entries.{IsBefore}
+use Rattle.cqs_floor_shared.specs.Shared.{seen_at, came_of}
 use Rattle.cqs_work.specs.declared.waits.Waited.{Waited}
 use Rattle.cqs_work.specs.Desk.{Desk}
 use Rattle.cqs_work.specs.Later.{Later}

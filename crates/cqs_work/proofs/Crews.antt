@@ -8,13 +8,13 @@ use Rattle.cqs_core.specs.declared.entries.Entry.{Entry}
 use Rattle.cqs_core.specs.SemaphoreNames.{entry_names as permit_names}
 use Rattle.cqs_core.specs.SemaphoreEntries.{IsLegal, object_after}
 use Rattle.cqs_core.proofs.Places.{get-below, get-there, get-append_left}
-use Rattle.cqs_reports.proofs.Mapped.{get-map}
+use Rattle.cqs_turns_report.proofs.Mapped.{get-map}
 use Rattle.cqs_plan.specs.declared.plans.kind.Kind.{Kind}
 use Rattle.cqs_plan.specs.declared.plans.kind.Kind.TheVariants as kind
 use Rattle.cqs_plan.specs.FloorHistory.{History, of_permits, of_elements, of_latch, of_rounds}
 use Rattle.cqs_plan.specs.LegalFloor.{IsHistory}
-use Rattle.cqs_shared.specs.Entries.{own_history}
-use Rattle.cqs_shared.specs.Shared.{Shared, IsLegalAt, seen_at, kind_at}
+use Rattle.cqs_floor_shared.specs.Entries.{own_history}
+use Rattle.cqs_floor_shared.specs.Shared.{Shared, IsLegalAt, seen_at, kind_at}
 use Rattle.cqs_work.specs.declared.waits.Waited.{Waited}
 use Rattle.cqs_work.specs.declared.waits.WaitLine.{WaitLine}
 use Rattle.cqs_work.specs.Later.{IsUnnamed}

@@ -3,15 +3,15 @@ use Rattle.std.proofs.Common.{◌≡◌, ℕ, ◌+◌, ◌<◌, List, [], ◌∷
 use Rattle.std.proofs.lemmas.List.{drop_more, drop_all}
 use Rattle.cqs_plan.specs.declared.floors.answers.FloorGive.TheVariants.{Free}
 use Rattle.cqs_plan.specs.Floor.{IsHolding, IsHoldable, holds_of}
-use Rattle.cqs_reports.specs.declared.actors.Actor.{Actor}
-use Rattle.cqs_reports.specs.Ready.{is_held, AreHoldable}
-use Rattle.cqs_reports.specs.Roles.{role}
-use Rattle.cqs_reports.specs.Turns.{places_held}
-use Rattle.cqs_reports.proofs.Held.{oldest-there}
-use Rattle.cqs_reports.proofs.Readied.{first-given, first-ready}
-use Rattle.cqs_shared.specs.declared.shared.SharedGive.{SharedGive}
-use Rattle.cqs_shared.specs.Shared.{kind_at}
-use Rattle.cqs_shared.specs.Calls.{Gives}
+use Rattle.cqs_turns_report.specs.declared.actors.Actor.{Actor}
+use Rattle.cqs_turns_report.specs.Ready.{is_held, AreHoldable}
+use Rattle.cqs_turns_report.specs.Roles.{role}
+use Rattle.cqs_turns_report.specs.Turns.{places_held}
+use Rattle.cqs_turns_report.proofs.Held.{oldest-there}
+use Rattle.cqs_turns_report.proofs.Readied.{first-given, first-ready}
+use Rattle.cqs_floor_shared.specs.declared.shared.SharedGive.{SharedGive}
+use Rattle.cqs_floor_shared.specs.Shared.{kind_at}
+use Rattle.cqs_floor_shared.specs.Calls.{Gives}
 use Rattle.cqs_work.specs.Desk.{Desk}
 use Rattle.cqs_work.specs.Heard.{Hears}
 use Rattle.cqs_work.specs.Heard as answer

@@ -8,7 +8,7 @@ use Rattle.cqs_core.specs.Parts.{IsPrefix}
 use Rattle.cqs_core.proofs.Places.{get-append_left}
 use Rattle.cqs_barrier_object.specs.declared.entries.BarrierEntry.{BarrierEntry}
 use Rattle.cqs_plan.specs.FloorHistory.{History, of_permits, of_elements, of_latch, of_rounds, entries_in}
-use Rattle.cqs_shared.specs.Entries.{Entries, at_permits, at_elements, at_latch, in_round, with_entries, IsBefore, drawn_in, IsDelivered, enters_for_permit, enters_for_element, enters_at_latch, enters_at_barrier}
+use Rattle.cqs_floor_shared.specs.Entries.{Entries, at_permits, at_elements, at_latch, in_round, with_entries, IsBefore, drawn_in, IsDelivered, enters_for_permit, enters_for_element, enters_at_latch, enters_at_barrier}
 use Rattle.cqs_work.specs.Causes.{HasLeftLine, WasTooLate, WasServed}
 
 -- all begins with itself

@@ -20,11 +20,11 @@ use Rattle.cqs_plan.specs.declared.floors.answers.FloorLeave.TheVariants.{Gone, 
 use Rattle.cqs_plan.specs.declared.floors.answers.FloorDown.{FloorDown}
 use Rattle.cqs_plan.specs.Floor.{PlainFloor, JobWait}
 use Rattle.cqs_plan.specs.FloorHistory.{History, of_permits, of_elements, of_latch, of_rounds, entries_in}
-use Rattle.cqs_reports.specs.Machine.{Role}
-use Rattle.cqs_shared.specs.declared.shared.SharedGive.{SharedGive}
-use Rattle.cqs_shared.specs.Entries.{Entries, at_permits, at_elements, at_latch, in_round, with_entries, own_entries, own_history}
-use Rattle.cqs_shared.specs.Shared.{Shared, Sees, seen_at, kind_at, came_of}
-use Rattle.cqs_shared.specs.Calls.{Comes, Gives, Downs, Looks, Leaves, IsDrawn, MayCome, IsFound, IsLate}
+use Rattle.cqs_turns_report.specs.Machine.{Role}
+use Rattle.cqs_floor_shared.specs.declared.shared.SharedGive.{SharedGive}
+use Rattle.cqs_floor_shared.specs.Entries.{Entries, at_permits, at_elements, at_latch, in_round, with_entries, own_entries, own_history}
+use Rattle.cqs_floor_shared.specs.Shared.{Shared, Sees, seen_at, kind_at, came_of}
+use Rattle.cqs_floor_shared.specs.Calls.{Comes, Gives, Downs, Looks, Leaves, IsDrawn, MayCome, IsFound, IsLate}
 use Rattle.cqs_work.specs.Desk.{Desk, with_answer}
 use Rattle.cqs_work.specs.Heard.{Heard, Answer, Hears, heard, with_call, heard_came, heard_given, heard_counted, heard_looked, heard_left, is_drawn, may_come, is_found, is_kept}
 use Rattle.cqs_work.specs.Heard as answer

@@ -13,17 +13,17 @@ use Rattle.cqs_core.specs.Numbered.{IsIn}
 use Rattle.cqs_plan.specs.declared.plans.job.Job.{Job}
 use Rattle.cqs_plan.specs.declared.plans.plan.Plan.{Plan}
 use Rattle.cqs_plan.specs.declared.plans.resource.Resource.{Resource}
-use Rattle.cqs_reports.specs.declared.states.End.TheVariants as end
-use Rattle.cqs_reports.specs.declared.states.Progress.{Progress}
-use Rattle.cqs_reports.specs.declared.states.Progress.TheVariants.{Ended}
+use Rattle.cqs_turns_report.specs.declared.states.End.TheVariants as end
+use Rattle.cqs_turns_report.specs.declared.states.Progress.{Progress}
+use Rattle.cqs_turns_report.specs.declared.states.Progress.TheVariants.{Ended}
 use Rattle.cqs_plan.specs.Floor.{IsHoldable}
 use Rattle.cqs_plan.specs.FloorHistory.{History, of_permits, of_elements, of_latch, of_rounds}
 use Rattle.cqs_plan.specs.Runnable.{IsRunnable, kinds_of}
-use Rattle.cqs_reports.specs.declared.states.JobState.{JobState}
-use Rattle.cqs_reports.proofs.Mapped.{get-map}
-use Rattle.cqs_shared.specs.Calls.{HaveAllMet, IsAtRest}
-use Rattle.cqs_shared.specs.Entries.{own_history}
-use Rattle.cqs_shared.specs.Shared.{Shared, seen_at, kind_at}
+use Rattle.cqs_turns_report.specs.declared.states.JobState.{JobState}
+use Rattle.cqs_turns_report.proofs.Mapped.{get-map}
+use Rattle.cqs_floor_shared.specs.Calls.{HaveAllMet, IsAtRest}
+use Rattle.cqs_floor_shared.specs.Entries.{own_history}
+use Rattle.cqs_floor_shared.specs.Shared.{Shared, seen_at, kind_at}
 use Rattle.cqs_work.specs.declared.ends.JobEnd.{JobEnd}
 use Rattle.cqs_work.specs.declared.waits.Waited.{Waited}
 use Rattle.cqs_work.specs.declared.works.Post.{Post}

@@ -13,8 +13,8 @@ use Rattle.cqs_latch_object.specs.LatchNames.{entry_names as latch_names}
 use Rattle.cqs_barrier_object.specs.declared.entries.BarrierEntry.{BarrierEntry}
 use Rattle.cqs_barrier_object.specs.BarrierNames.{entry_names as party_names}
 use Rattle.cqs_plan.specs.FloorHistory.{History, of_permits, of_elements, of_latch, of_rounds, entries_in}
-use Rattle.cqs_shared.specs.Entries.{Entries, at_permits, at_elements, at_latch, in_round, with_entries, own_entries, none_of, IsBefore}
-use Rattle.cqs_shared.specs.Shared.{Shared, Sees, IsLegalAt, seen_at}
+use Rattle.cqs_floor_shared.specs.Entries.{Entries, at_permits, at_elements, at_latch, in_round, with_entries, own_entries, none_of, IsBefore}
+use Rattle.cqs_floor_shared.specs.Shared.{Shared, Sees, IsLegalAt, seen_at}
 use Rattle.cqs_work.specs.Accounts.{IsAccounted}
 use Rattle.cqs_work.specs.Later.{IsUnnamed, IsSound, Later}
 use Rattle.cqs_work.proofs.Growing.{before-itself, before-through, before-with}

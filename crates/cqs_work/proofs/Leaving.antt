@@ -22,10 +22,10 @@ use Rattle.cqs_plan.specs.declared.floors.answers.FloorLeave.{FloorLeave}
 use Rattle.cqs_plan.specs.declared.floors.answers.FloorLeave.TheVariants.{Gone, Late}
 use Rattle.cqs_plan.specs.Floor.{JobWait}
 use Rattle.cqs_plan.specs.FloorHistory.{History, of_permits, of_elements, of_latch, of_rounds, entries_in}
-use Rattle.cqs_shared.specs.Entries.{Entries, AreOf, at_permits, at_elements, at_latch, in_round, with_entries, own_entries}
-use Rattle.cqs_shared.specs.AnswerEntries.{leave_entries, unless_came}
-use Rattle.cqs_shared.specs.Calls.{IsLate, Leaves}
-use Rattle.cqs_shared.specs.Shared.{Shared, seen_at, kind_at, came_of}
+use Rattle.cqs_floor_shared.specs.Entries.{Entries, AreOf, at_permits, at_elements, at_latch, in_round, with_entries, own_entries}
+use Rattle.cqs_floor_shared.specs.AnswerEntries.{leave_entries, unless_came}
+use Rattle.cqs_floor_shared.specs.Calls.{IsLate, Leaves}
+use Rattle.cqs_floor_shared.specs.Shared.{Shared, seen_at, kind_at, came_of}
 use Rattle.cqs_work.specs.Causes.{HasLeftLine, WasTooLate}
 use Rattle.cqs_work.proofs.Lasting.{seen-here}
 

@@ -3,6 +3,8 @@ pub mod Lasting
 pub mod Nothing
 pub mod Leaving
 pub mod Accounts
+pub mod LookAccounts
+pub mod LeaveAccounts
 pub mod Adding
 pub mod Causing
 pub mod HeardLemmas

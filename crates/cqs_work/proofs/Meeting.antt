@@ -8,9 +8,9 @@ use Rattle.cqs_core.specs.Parts.{Has}
 use Rattle.cqs_core.proofs.EachAtLemmas.{EachAt-push}
 use Rattle.cqs_core.proofs.Places.{get-append_left, get-below}
 use Rattle.cqs_plan.specs.Floor.{wait_of, holds_of}
-use Rattle.cqs_shared.specs.Entries.{own_history, is_nothing}
-use Rattle.cqs_shared.specs.Shared.{Shared, seen_at}
-use Rattle.cqs_shared.specs.Calls.{Meets, HasWait, HaveAllMet, IsAtRest}
+use Rattle.cqs_floor_shared.specs.Entries.{own_history, is_nothing}
+use Rattle.cqs_floor_shared.specs.Shared.{Shared, seen_at}
+use Rattle.cqs_floor_shared.specs.Calls.{Meets, HasWait, HaveAllMet, IsAtRest}
 use Rattle.cqs_work.specs.Later.{IsUnnamed}
 use Rattle.cqs_work.specs.Met.{CanMeet, HaveMet, IsKeptIn}
 use Rattle.cqs_work.proofs.Growing.{before-itself, before-through}

@@ -14,9 +14,10 @@ use Rattle.cqs_plan.specs.PlanSteps.{is_arrival}
 use Rattle.cqs_plan.specs.Floor.{PlainFloor, JobWait, Holding, IsJob, HasRound, wait_of, holds_of, own_rounds, round_of, room_at, is_holdable, with_done_in, with_less_room, with_wait}
 use Rattle.cqs_plan.specs.FloorHistory.{Deed, gets, is_late}
 use Rattle.cqs_plan.specs.FloorCalls.{after_take, after_look, after_leave, after_wait, after_arrive, with_granted, with_left}
-use Rattle.cqs_reports.proofs.Moved.{MayWait, may-take, may-await, may-arrive, moves-room, arrivals-cons, waits-cons, arrived-here, arrived-else, has-place}
-use Rattle.cqs_shared.specs.Shared.{parties_in, with_parties}
-use Rattle.cqs_shared.specs.Calls.{board_given}
+use Rattle.cqs_turns_report.proofs.ArrivalMoves.{arrived-here, arrived-else, has-place}
+use Rattle.cqs_turns_report.proofs.Moved.{MayWait, may-take, may-await, may-arrive, moves-room, arrivals-cons, waits-cons}
+use Rattle.cqs_floor_shared.specs.Shared.{parties_in, with_parties}
+use Rattle.cqs_floor_shared.specs.Calls.{board_given}
 use Rattle.cqs_work.specs.Needs.{waits_in, parties_for, comes_to}
 use Rattle.cqs_work.specs.Doing.{AreSameBut, Moves}
 use Rattle.cqs_work.proofs.Parties.{comes-fewer, comes-here, comes-elsewhere, parties-here, parties-elsewhere}

@@ -1,9 +1,9 @@
 -- What the jobs need together, before and after the turn of one of them.
 use Rattle.std.proofs.Common.{◌≡◌, ◌≢◌, ℕ, zero, suc, ◌+◌, ◌≤◌, List, [], ◌∷◌, Some, get_or, set, slice_get, refl, ap, arith}
 use Rattle.cqs_plan.specs.declared.plans.job.Job.{Job}
-use Rattle.cqs_reports.specs.declared.states.Progress.{Progress}
-use Rattle.cqs_reports.specs.Ready.{steps_left}
-use Rattle.cqs_shared.specs.Shared.{Shared}
+use Rattle.cqs_turns_report.specs.declared.states.Progress.{Progress}
+use Rattle.cqs_turns_report.specs.Ready.{steps_left}
+use Rattle.cqs_floor_shared.specs.Shared.{Shared}
 use Rattle.cqs_work.specs.Needs.{sum_of_needs, parties_for, room_needed, parties_needed, IsProvided, AreProvided}
 use Rattle.cqs_work.specs.Doing.{Moves}
 

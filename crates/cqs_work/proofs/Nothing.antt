@@ -9,7 +9,7 @@ use Rattle.cqs_latch_object.specs.LatchNames.{entry_names as latch_names}
 use Rattle.cqs_barrier_object.specs.declared.entries.BarrierEntry.{BarrierEntry}
 use Rattle.cqs_barrier_object.specs.BarrierNames.{entry_names as party_names}
 use Rattle.cqs_plan.specs.FloorHistory.{History, of_permits, of_elements, of_latch, of_rounds, entries_in}
-use Rattle.cqs_shared.specs.Entries.{own_history, is_nothing, are_nothing}
+use Rattle.cqs_floor_shared.specs.Entries.{own_history, is_nothing, are_nothing}
 use Rattle.cqs_work.specs.Accounts.{Weights, sum_in}
 use Rattle.cqs_work.specs.Later.{IsUnnamed}
 use Rattle.cqs_work.specs.Noted.{draws, draws_in}

@@ -12,17 +12,17 @@ use Rattle.cqs_plan.specs.declared.plans.plan.Plan.{Plan}
 use Rattle.cqs_plan.specs.declared.plans.resource.Resource.{Resource}
 use Rattle.cqs_plan.specs.Floor.{PlainFloor, Holding, opening_floor}
 use Rattle.cqs_plan.specs.Runnable.{IsRunnable}
-use Rattle.cqs_reports.specs.declared.states.End.TheVariants as end
-use Rattle.cqs_reports.specs.declared.states.JobState.{JobState}
-use Rattle.cqs_reports.specs.declared.states.Progress.{Progress}
-use Rattle.cqs_reports.specs.declared.states.Progress.TheVariants.{Stepping, Ended}
-use Rattle.cqs_reports.specs.Ready.{IsReady, wait_in, steps_left}
-use Rattle.cqs_reports.specs.Running.{IsRunning}
-use Rattle.cqs_reports.specs.Turns.{opening_machine, places_held}
-use Rattle.cqs_reports.proofs.Mapped.{get-map}
-use Rattle.cqs_reports.proofs.Opened.{opening-running}
-use Rattle.cqs_reports.proofs.Readied.{ready-to-end}
-use Rattle.cqs_shared.specs.Shared.{Shared, seen_at}
+use Rattle.cqs_turns_report.specs.declared.states.End.TheVariants as end
+use Rattle.cqs_turns_report.specs.declared.states.JobState.{JobState}
+use Rattle.cqs_turns_report.specs.declared.states.Progress.{Progress}
+use Rattle.cqs_turns_report.specs.declared.states.Progress.TheVariants.{Stepping, Ended}
+use Rattle.cqs_turns_report.specs.Ready.{IsReady, wait_in, steps_left}
+use Rattle.cqs_turns_report.specs.Running.{IsRunning}
+use Rattle.cqs_turns_report.specs.Turns.{opening_machine, places_held}
+use Rattle.cqs_turns_report.proofs.Mapped.{get-map}
+use Rattle.cqs_turns_report.proofs.Opened.{opening-running}
+use Rattle.cqs_turns_report.proofs.Readied.{ready-to-end}
+use Rattle.cqs_floor_shared.specs.Shared.{Shared, seen_at}
 use Rattle.cqs_work.specs.Accounts.{Weights, gains, losses, doors, enters, sum_in, waits_at, held_at, IsAccounted}
 use Rattle.cqs_work.specs.Adds.{IsOver}
 use Rattle.cqs_work.specs.Causes.{IsCaused}

@@ -2,7 +2,7 @@
 use Rattle.std.proofs.Common.{◌≡◌, ◌≢◌, ◌⊎◌, inl, inr, ℕ, ◌+◌, ◌-◌, ◌<◌, ◌≤◌, nat_lt, cond, List, [], length, set, get_or, sym, ap, ◌∙◌, subst, lt-ltb, le-ltb, arith}
 use Rattle.std.proofs.lemmas.Bool.{cases_eq, cases_lt}
 use Rattle.std.proofs.lemmas.List.{get_or-set_same, get_or-set_other, get_or_past, length-set}
-use Rattle.cqs_shared.specs.Shared.{parties_in, with_parties}
+use Rattle.cqs_floor_shared.specs.Shared.{parties_in, with_parties}
 use Rattle.cqs_work.specs.Needs.{comes_to}
 
 comes-in : (round first n : ℕ) → first ≤ round → round < first + n → comes_to round first n ≡ 1

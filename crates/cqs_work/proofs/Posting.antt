@@ -7,10 +7,10 @@ use Rattle.cqs_core.specs.Numbered.{EachAt}
 use Rattle.cqs_core.specs.declared.Memory.{Memory}
 use Rattle.cqs_core.proofs.EachAtLemmas.{EachAt-push}
 use Rattle.cqs_core.proofs.Places.{get-append_left, get-append_below, get-push_at, get-below}
-use Rattle.cqs_reports.specs.declared.states.End.TheVariants as end
-use Rattle.cqs_reports.specs.declared.states.JobState.{JobState}
-use Rattle.cqs_reports.specs.declared.states.Progress.TheVariants.{Ended}
-use Rattle.cqs_reports.proofs.Mapped.{get-map}
+use Rattle.cqs_turns_report.specs.declared.states.End.TheVariants as end
+use Rattle.cqs_turns_report.specs.declared.states.JobState.{JobState}
+use Rattle.cqs_turns_report.specs.declared.states.Progress.TheVariants.{Ended}
+use Rattle.cqs_turns_report.proofs.Mapped.{get-map}
 use Rattle.cqs_work.specs.declared.ends.JobEnd.{JobEnd}
 use Rattle.cqs_work.specs.declared.waits.Waited.{Waited}
 use Rattle.cqs_work.specs.declared.works.Post.{Post}

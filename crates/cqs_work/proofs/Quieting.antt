@@ -12,9 +12,9 @@ use Rattle.cqs_plan.specs.declared.plans.plan.Plan.{Plan}
 use Rattle.cqs_plan.specs.Floor.{Holding, IsHoldable, holds_of, wait_of}
 use Rattle.cqs_plan.specs.FloorHistory.{History, of_permits, of_elements, of_latch, of_rounds}
 use Rattle.cqs_plan.specs.LegalFloor.{IsHistory}
-use Rattle.cqs_shared.specs.Calls.{IsAtRest}
-use Rattle.cqs_shared.specs.Entries.{own_history}
-use Rattle.cqs_shared.specs.Shared.{Shared, seen_at, kind_at}
+use Rattle.cqs_floor_shared.specs.Calls.{IsAtRest}
+use Rattle.cqs_floor_shared.specs.Entries.{own_history}
+use Rattle.cqs_floor_shared.specs.Shared.{Shared, seen_at, kind_at}
 use Rattle.cqs_work.specs.Accounts.{gains, losses, doors, enters, sum_in, waits_at, held_at, count_at, IsAccounted}
 use Rattle.cqs_work.specs.Even.{IsEven, IsEvenAtPool, NamesBelow}
 use Rattle.cqs_work.specs.Later.{IsUnnamed}

@@ -10,15 +10,15 @@ use Rattle.cqs_plan.specs.declared.plans.kind.Kind.{Kind}
 use Rattle.cqs_plan.specs.declared.plans.kind.Kind.TheVariants as kind
 use Rattle.cqs_plan.specs.PlanSteps.{is_take, may_wait}
 use Rattle.cqs_plan.specs.Floor.{PlainFloor, IsHoldable, IsLatch, HasRound}
-use Rattle.cqs_reports.specs.declared.actors.Actor.{Actor}
-use Rattle.cqs_reports.specs.declared.states.End.TheVariants as end
-use Rattle.cqs_reports.specs.declared.states.Progress.{Progress}
-use Rattle.cqs_reports.specs.declared.states.Progress.TheVariants.{Stepping, Waiting, Ended}
-use Rattle.cqs_reports.proofs.Moved.{may-take}
+use Rattle.cqs_turns_report.specs.declared.actors.Actor.{Actor}
+use Rattle.cqs_turns_report.specs.declared.states.End.TheVariants as end
+use Rattle.cqs_turns_report.specs.declared.states.Progress.{Progress}
+use Rattle.cqs_turns_report.specs.declared.states.Progress.TheVariants.{Stepping, Waiting, Ended}
+use Rattle.cqs_turns_report.proofs.Moved.{may-take}
 use Rattle.std.proofs.lemmas.Bool.{cases_eq, cases_lt}
-use Rattle.cqs_shared.specs.AnswerEntries.{came_entries}
-use Rattle.cqs_shared.specs.Shared.{kind_at, came_of}
-use Rattle.cqs_shared.specs.Calls.{Takes, Comes}
+use Rattle.cqs_floor_shared.specs.AnswerEntries.{came_entries}
+use Rattle.cqs_floor_shared.specs.Shared.{kind_at, came_of}
+use Rattle.cqs_floor_shared.specs.Calls.{Takes, Comes}
 use Rattle.cqs_work.specs.Desk.{Desk, with_answer}
 use Rattle.cqs_work.specs.Heard as answer
 use Rattle.cqs_work.specs.Roles.{same}

@@ -9,18 +9,19 @@ use Rattle.cqs_plan.specs.declared.floors.answers.FloorGive.TheVariants.{Free}
 use Rattle.cqs_plan.specs.PlanSteps.{is_arrival}
 use Rattle.cqs_plan.specs.FloorCalls.{after_take, after_wait, after_arrive}
 use Rattle.cqs_plan.specs.Floor.{PlainFloor, IsJob, HasRound, round_of, room_at, with_less_room}
-use Rattle.cqs_reports.specs.declared.actors.Actor.{Actor}
-use Rattle.cqs_reports.specs.declared.states.End.TheVariants as end
-use Rattle.cqs_reports.specs.declared.states.Progress.{Progress}
-use Rattle.cqs_reports.specs.declared.states.Progress.TheVariants.{Stepping, Working, Waiting, Ended}
-use Rattle.cqs_reports.specs.Ready.{IsReady, wait_in, steps_left}
-use Rattle.cqs_reports.specs.Roles.{role}
-use Rattle.cqs_reports.proofs.Moved.{may-take, may-await, may-arrive, arrived-here, arrived-else, has-place}
-use Rattle.cqs_reports.proofs.Readied.{on_take-ready, waiting-ready, on_pass-ready, on_wait-ready, on_last-ready, on_arrive-ready, on_give-ready}
+use Rattle.cqs_turns_report.specs.declared.actors.Actor.{Actor}
+use Rattle.cqs_turns_report.specs.declared.states.End.TheVariants as end
+use Rattle.cqs_turns_report.specs.declared.states.Progress.{Progress}
+use Rattle.cqs_turns_report.specs.declared.states.Progress.TheVariants.{Stepping, Working, Waiting, Ended}
+use Rattle.cqs_turns_report.specs.Ready.{IsReady, wait_in, steps_left}
+use Rattle.cqs_turns_report.specs.Roles.{role}
+use Rattle.cqs_turns_report.proofs.ArrivalMoves.{arrived-here, arrived-else, has-place}
+use Rattle.cqs_turns_report.proofs.Moved.{may-take, may-await, may-arrive}
+use Rattle.cqs_turns_report.proofs.Readied.{on_take-ready, waiting-ready, on_pass-ready, on_wait-ready, on_last-ready, on_arrive-ready, on_give-ready}
 use Rattle.std.proofs.lemmas.Bool.{cases_eq}
-use Rattle.cqs_shared.specs.declared.shared.SharedGive.{SharedGive}
-use Rattle.cqs_shared.specs.Shared.{kind_at, parties_at}
-use Rattle.cqs_shared.specs.Calls.{Takes, Waits as Waits_at, Arrives, Gives, Downs, element_held}
+use Rattle.cqs_floor_shared.specs.declared.shared.SharedGive.{SharedGive}
+use Rattle.cqs_floor_shared.specs.Shared.{kind_at, parties_at}
+use Rattle.cqs_floor_shared.specs.Calls.{Takes, Waits as Waits_at, Arrives, Gives, Downs, element_held}
 use Rattle.cqs_work.specs.Desk.{Desk, with_answer}
 use Rattle.cqs_work.specs.Heard.{Heard, Hears}
 use Rattle.cqs_work.specs.Heard as answer

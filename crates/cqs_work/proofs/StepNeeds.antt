@@ -11,14 +11,14 @@ use Rattle.cqs_plan.specs.declared.floors.answers.FloorTake.{FloorTake}
 use Rattle.cqs_plan.specs.declared.floors.answers.FloorTake.TheVariants.{Now, Waits}
 use Rattle.cqs_plan.specs.PlanSteps.{is_arrival, may_wait}
 use Rattle.cqs_plan.specs.Floor.{PlainFloor, IsHoldable, IsLatch, IsHolding, round_of, room_at}
-use Rattle.cqs_reports.specs.declared.actors.Actor.{Actor}
-use Rattle.cqs_reports.specs.declared.states.Progress.TheVariants.{Stepping}
-use Rattle.cqs_reports.specs.Ready.{IsReady}
-use Rattle.cqs_reports.specs.Turns.{places_held}
-use Rattle.cqs_reports.proofs.Moved.{MayWait, may-take, may-await, waits-cons}
-use Rattle.cqs_reports.proofs.Readied.{can-give, holds-given}
-use Rattle.cqs_shared.specs.Shared.{Shared, kind_at}
-use Rattle.cqs_shared.specs.Calls.{board_waited, board_arrived, Waits as Waits_at, Arrives}
+use Rattle.cqs_turns_report.specs.declared.actors.Actor.{Actor}
+use Rattle.cqs_turns_report.specs.declared.states.Progress.TheVariants.{Stepping}
+use Rattle.cqs_turns_report.specs.Ready.{IsReady}
+use Rattle.cqs_turns_report.specs.Turns.{places_held}
+use Rattle.cqs_turns_report.proofs.Moved.{MayWait, may-take, may-await, waits-cons}
+use Rattle.cqs_turns_report.proofs.Readied.{can-give, holds-given}
+use Rattle.cqs_floor_shared.specs.Shared.{Shared, kind_at}
+use Rattle.cqs_floor_shared.specs.Calls.{board_waited, board_arrived, Waits as Waits_at, Arrives}
 use Rattle.cqs_work.specs.Needs.{waits_in, parties_for, comes_to, IsProvided}
 use Rattle.cqs_work.specs.Doing.{CanAct}
 use Rattle.cqs_work.proofs.Parties.{comes-next}

@@ -10,18 +10,18 @@ use Rattle.cqs_plan.specs.declared.plans.plan.Plan.{Plan}
 use Rattle.cqs_plan.specs.declared.plans.step.Step.{Step}
 use Rattle.cqs_plan.specs.Floor.{PlainFloor, JobWait}
 use Rattle.cqs_plan.specs.Runnable.{IsRunnable, kinds_of}
-use Rattle.cqs_reports.specs.declared.actors.Actor.{Actor}
-use Rattle.cqs_reports.specs.declared.states.JobState.{JobState}
-use Rattle.cqs_reports.specs.declared.states.End.TheVariants as end
-use Rattle.cqs_reports.specs.declared.states.Progress.{Progress}
-use Rattle.cqs_reports.specs.declared.states.Progress.TheVariants.{Stepping, Working, Waiting, Ended}
-use Rattle.cqs_reports.specs.Machine.{MachineIn, ActedIn}
-use Rattle.cqs_reports.specs.Machine as machine
-use Rattle.cqs_reports.specs.Ready.{IsReady, wait_in, steps_left}
-use Rattle.cqs_reports.specs.Roles.{role}
-use Rattle.cqs_reports.specs.Turns.{places_held}
-use Rattle.cqs_reports.proofs.Mapped.{get-map}
-use Rattle.cqs_shared.specs.Shared.{Shared}
+use Rattle.cqs_turns_report.specs.declared.actors.Actor.{Actor}
+use Rattle.cqs_turns_report.specs.declared.states.JobState.{JobState}
+use Rattle.cqs_turns_report.specs.declared.states.End.TheVariants as end
+use Rattle.cqs_turns_report.specs.declared.states.Progress.{Progress}
+use Rattle.cqs_turns_report.specs.declared.states.Progress.TheVariants.{Stepping, Working, Waiting, Ended}
+use Rattle.cqs_turns_report.specs.Machine.{MachineIn, ActedIn}
+use Rattle.cqs_turns_report.specs.Machine as machine
+use Rattle.cqs_turns_report.specs.Ready.{IsReady, wait_in, steps_left}
+use Rattle.cqs_turns_report.specs.Roles.{role}
+use Rattle.cqs_turns_report.specs.Turns.{places_held}
+use Rattle.cqs_turns_report.proofs.Mapped.{get-map}
+use Rattle.cqs_floor_shared.specs.Shared.{Shared}
 use Rattle.cqs_work.specs.Desk.{Desk}
 use Rattle.cqs_work.specs.Heard.{Heard, Hears, heard, heard_world}
 use Rattle.cqs_work.specs.Roles.{act, left_so}

@@ -9,15 +9,15 @@ use Rattle.cqs_plan.specs.declared.plans.kind.Kind.{Kind}
 use Rattle.cqs_plan.specs.declared.plans.kind.Kind.TheVariants as kind
 use Rattle.cqs_plan.specs.FloorCalls.{after_look, after_leave}
 use Rattle.cqs_plan.specs.Floor.{PlainFloor, JobWait, round_of}
-use Rattle.cqs_reports.specs.declared.actors.Actor.{Actor}
-use Rattle.cqs_reports.specs.declared.states.End.{End}
-use Rattle.cqs_reports.specs.declared.states.Progress.{Progress}
-use Rattle.cqs_reports.specs.declared.states.Progress.TheVariants.{Stepping, Waiting}
-use Rattle.cqs_reports.specs.Machine.{end_of}
-use Rattle.cqs_reports.specs.Roles.{role, wait_at}
-use Rattle.cqs_reports.proofs.Readied.{after_looking-ready, leave-ready}
-use Rattle.cqs_shared.specs.Shared.{Shared, kind_at, seen_at, came_of, parties_in}
-use Rattle.cqs_shared.specs.Calls.{HasLooked, HasLeft, Leaves, Looks, parties_left, parties_left_at}
+use Rattle.cqs_turns_report.specs.declared.actors.Actor.{Actor}
+use Rattle.cqs_turns_report.specs.declared.states.End.{End}
+use Rattle.cqs_turns_report.specs.declared.states.Progress.{Progress}
+use Rattle.cqs_turns_report.specs.declared.states.Progress.TheVariants.{Stepping, Waiting}
+use Rattle.cqs_turns_report.specs.Machine.{end_of}
+use Rattle.cqs_turns_report.specs.Roles.{role, wait_at}
+use Rattle.cqs_turns_report.proofs.Readied.{after_looking-ready, leave-ready}
+use Rattle.cqs_floor_shared.specs.Shared.{Shared, kind_at, seen_at, came_of, parties_in}
+use Rattle.cqs_floor_shared.specs.Calls.{HasLooked, HasLeft, Leaves, Looks, parties_left, parties_left_at}
 use Rattle.cqs_work.specs.Desk.{Desk}
 use Rattle.cqs_work.specs.Heard as answer
 use Rattle.cqs_work.specs.Roles.{left_so, go_on, leave_end, ended_so, look_at}
@@ -30,7 +30,8 @@ use Rattle.cqs_work.proofs.Growing.{served-stays}
 use Rattle.cqs_work.proofs.Leaving.{gone-told, late-told}
 use Rattle.cqs_work.proofs.Adding.{call-keeps, looked-plain, left-plain}
 use Rattle.cqs_work.proofs.Causing.{adds-keeps, adds-as}
-use Rattle.cqs_work.proofs.Accounts.{look-later, leave-later}
+use Rattle.cqs_work.proofs.LeaveAccounts.{leave-later}
+use Rattle.cqs_work.proofs.LookAccounts.{look-later}
 use Rattle.cqs_work.proofs.HeardLemmas.{looked-is, left-is}
 use Rattle.cqs_work.proofs.Parties.{parties-more}
 use Rattle.cqs_work.proofs.Moving.{moves-none, moves-looked, looked-rounds, moves-left, moves-late}

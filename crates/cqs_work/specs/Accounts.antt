@@ -7,8 +7,8 @@ use Rattle.cqs_pool_object.specs.declared.entries.PoolEntry.{PoolEntry}
 use Rattle.cqs_pool_object.specs.PoolNames.{entry_names as element_names}
 use Rattle.cqs_plan.specs.Floor.{PlainFloor, JobWait, Holding, IsHoldable}
 use Rattle.cqs_plan.specs.FloorHistory.{History, of_permits, of_elements, of_latch, of_rounds}
-use Rattle.cqs_shared.specs.Entries.{Entries, at_permits, at_elements, at_latch, in_round}
-use Rattle.cqs_shared.specs.Shared.{Shared, kind_at, seen_at}
+use Rattle.cqs_floor_shared.specs.Entries.{Entries, at_permits, at_elements, at_latch, in_round}
+use Rattle.cqs_floor_shared.specs.Shared.{Shared, kind_at, seen_at}
 use Rattle.cqs_work.specs.Even.{permit_gains, permit_losses, permit_doors, permit_enters, element_gains, element_losses}
 
 -- what an entry counts for, at a semaphore and at a pool

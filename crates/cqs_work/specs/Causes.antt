@@ -10,12 +10,12 @@ use Rattle.cqs_plan.specs.declared.plans.job.Job.{Job}
 use Rattle.cqs_plan.specs.declared.plans.step.Step.{Step}
 use Rattle.cqs_plan.specs.FloorHistory.{History, of_permits, of_elements, of_latch, of_rounds, entries_in}
 use Rattle.cqs_plan.specs.PlanSteps.{may_wait}
-use Rattle.cqs_reports.specs.declared.states.End.{End}
-use Rattle.cqs_reports.specs.declared.states.End.TheVariants as end
-use Rattle.cqs_reports.specs.declared.states.Progress.{Progress}
-use Rattle.cqs_reports.specs.declared.states.Progress.TheVariants.{Stepping, Working, Waiting, Ended}
-use Rattle.cqs_shared.specs.Entries.{drawn_in, IsDelivered}
-use Rattle.cqs_shared.specs.Shared.{kind_at, seen_at, came_of}
+use Rattle.cqs_turns_report.specs.declared.states.End.{End}
+use Rattle.cqs_turns_report.specs.declared.states.End.TheVariants as end
+use Rattle.cqs_turns_report.specs.declared.states.Progress.{Progress}
+use Rattle.cqs_turns_report.specs.declared.states.Progress.TheVariants.{Stepping, Working, Waiting, Ended}
+use Rattle.cqs_floor_shared.specs.Entries.{drawn_in, IsDelivered}
+use Rattle.cqs_floor_shared.specs.Shared.{kind_at, seen_at, came_of}
 use Rattle.cqs_work.specs.declared.waits.Waited.{Waited}
 use Rattle.cqs_work.specs.declared.ends.JobEnd.{JobEnd}
 use Rattle.cqs_work.specs.declared.ends.JobEnd.TheVariants.{Done, GaveUp, Late, Crowded, Unfinished}

@@ -2,10 +2,10 @@
 use Rattle.std.specs.Prelude.{◌≡◌, ℕ, ◌+◌, ◌≤◌, Bool, List, ◌++◌, All, Some, length, slice_get, if◌then◌else◌}
 use Rattle.cqs_plan.specs.declared.plans.job.Job.{Job}
 use Rattle.cqs_plan.specs.declared.plans.plan.Plan.{Plan}
-use Rattle.cqs_reports.specs.declared.states.End.{End}
-use Rattle.cqs_reports.specs.declared.states.Progress.{Progress}
-use Rattle.cqs_reports.specs.declared.states.Progress.TheVariants.{Ended}
-use Rattle.cqs_shared.specs.Shared.{kind_at}
+use Rattle.cqs_turns_report.specs.declared.states.End.{End}
+use Rattle.cqs_turns_report.specs.declared.states.Progress.{Progress}
+use Rattle.cqs_turns_report.specs.declared.states.Progress.TheVariants.{Ended}
+use Rattle.cqs_floor_shared.specs.Shared.{kind_at}
 use Rattle.cqs_work.specs.declared.waits.Waited.{Waited}
 use Rattle.cqs_work.specs.Desk.{Desk}
 use Rattle.cqs_work.specs.Needs.{sum_of_needs}

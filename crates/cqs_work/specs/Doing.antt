@@ -4,11 +4,11 @@ use Rattle.std.specs.Prelude.{◌≡◌, ◌≢◌, ℕ, ◌+◌, ◌≤◌, Lis
 use Rattle.cqs_plan.specs.declared.plans.step.Step.{Step}
 use Rattle.cqs_plan.specs.Floor.{PlainFloor, JobWait, round_of, room_at}
 use Rattle.cqs_plan.specs.Runnable.{kinds_of}
-use Rattle.cqs_reports.specs.declared.actors.Actor.{Actor}
-use Rattle.cqs_reports.specs.declared.states.Progress.{Progress}
-use Rattle.cqs_reports.specs.declared.states.Progress.TheVariants.{Stepping}
-use Rattle.cqs_reports.specs.Ready.{IsReady, wait_in, steps_left}
-use Rattle.cqs_shared.specs.Shared.{Shared, parties_in}
+use Rattle.cqs_turns_report.specs.declared.actors.Actor.{Actor}
+use Rattle.cqs_turns_report.specs.declared.states.Progress.{Progress}
+use Rattle.cqs_turns_report.specs.declared.states.Progress.TheVariants.{Stepping}
+use Rattle.cqs_turns_report.specs.Ready.{IsReady, wait_in, steps_left}
+use Rattle.cqs_floor_shared.specs.Shared.{Shared, parties_in}
 use Rattle.cqs_work.specs.Adds.{Adds, Keeps}
 use Rattle.cqs_work.specs.Desk.{Desk}
 use Rattle.cqs_work.specs.Heard.{Heard, Hears}

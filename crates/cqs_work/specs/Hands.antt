@@ -1,5 +1,5 @@
 -- What a clerk has at hand.
-use Rattle.cqs_shared.specs.Shared.{Shared}
+use Rattle.cqs_floor_shared.specs.Shared.{Shared}
 use Rattle.cqs_work.specs.declared.clerk.Clerk.{Clerk}
 use Rattle.cqs_work.specs.Desk.{Desk, desk}
 

@@ -13,14 +13,14 @@ use Rattle.cqs_plan.specs.declared.floors.answers.FloorDown.TheVariants.{Already
 use Rattle.cqs_plan.specs.Floor.{PlainFloor, round_of}
 use Rattle.cqs_plan.specs.FloorCalls.{after_look, after_leave}
 use Rattle.cqs_plan.specs.FloorHistory.{History, of_permits}
-use Rattle.cqs_reports.specs.Machine.{World, Role}
-use Rattle.cqs_reports.specs.Turns.{places_held}
-use Rattle.cqs_shared.specs.declared.shared.SharedGive.{SharedGive}
-use Rattle.cqs_shared.specs.declared.shared.SharedGive.TheVariants as shared
-use Rattle.cqs_shared.specs.Entries.{Entries, with_entries, own_history}
-use Rattle.cqs_shared.specs.AnswerEntries.{came_entries, give_entries, look_entries, leave_entries, unless_came, down_entries}
-use Rattle.cqs_shared.specs.Shared.{kind_in}
-use Rattle.cqs_shared.specs.Calls.{board_taken, board_waited, board_arrived, board_given, element_held}
+use Rattle.cqs_turns_report.specs.Machine.{World, Role}
+use Rattle.cqs_turns_report.specs.Turns.{places_held}
+use Rattle.cqs_floor_shared.specs.declared.shared.SharedGive.{SharedGive}
+use Rattle.cqs_floor_shared.specs.declared.shared.SharedGive.TheVariants as shared
+use Rattle.cqs_floor_shared.specs.Entries.{Entries, with_entries, own_history}
+use Rattle.cqs_floor_shared.specs.AnswerEntries.{came_entries, give_entries, look_entries, leave_entries, unless_came, down_entries}
+use Rattle.cqs_floor_shared.specs.Shared.{kind_in}
+use Rattle.cqs_floor_shared.specs.Calls.{board_taken, board_waited, board_arrived, board_given, element_held}
 use Rattle.cqs_work.specs.declared.waits.Waited.{Waited}
 use Rattle.cqs_work.specs.Desk.{Desk, with_answer}
 use Rattle.cqs_work.specs.Later.{Later}

@@ -6,8 +6,8 @@ use Rattle.cqs_pool_object.specs.PoolNames.{entry_names as element_names}
 use Rattle.cqs_latch_object.specs.LatchNames.{entry_names as latch_names}
 use Rattle.cqs_barrier_object.specs.BarrierNames.{entry_names as party_names}
 use Rattle.cqs_plan.specs.FloorHistory.{History, of_permits, of_elements, of_latch, of_rounds, entries_in}
-use Rattle.cqs_shared.specs.Entries.{IsBefore}
-use Rattle.cqs_shared.specs.Shared.{Shared, IsSame, IsLegalAt, seen_at}
+use Rattle.cqs_floor_shared.specs.Entries.{IsBefore}
+use Rattle.cqs_floor_shared.specs.Shared.{Shared, IsSame, IsLegalAt, seen_at}
 use Rattle.cqs_work.specs.Accounts.{IsAccounted}
 
 -- no entry names the caller n, in no round

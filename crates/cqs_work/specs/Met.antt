@@ -2,9 +2,9 @@
 use Rattle.std.specs.Prelude.{◌≡◌, ◌≢◌, ◌⊎◌, ℕ, ◌<◌, List, [], ◌∷◌, map, AllPairs}
 use Rattle.cqs_core.specs.Numbered.{EachAt}
 use Rattle.cqs_core.specs.Parts.{Has}
-use Rattle.cqs_shared.specs.Entries.{own_history, IsBefore}
-use Rattle.cqs_shared.specs.Shared.{Shared, IsLegalAt, seen_at}
-use Rattle.cqs_shared.specs.Calls.{HaveAllMet, IsAtRest}
+use Rattle.cqs_floor_shared.specs.Entries.{own_history, IsBefore}
+use Rattle.cqs_floor_shared.specs.Shared.{Shared, IsLegalAt, seen_at}
+use Rattle.cqs_floor_shared.specs.Calls.{HaveAllMet, IsAtRest}
 use Rattle.cqs_work.specs.Later.{IsSound, IsUnnamed}
 
 abbrev pub shared_of : {F : Type 0} → (F → Shared) → List F → List Shared

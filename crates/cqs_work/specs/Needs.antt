@@ -5,10 +5,10 @@ use Rattle.cqs_plan.specs.declared.plans.job.Job.{Job}
 use Rattle.cqs_plan.specs.declared.plans.step.Step.{Step}
 use Rattle.cqs_plan.specs.PlanSteps.{is_arrival, may_wait}
 use Rattle.cqs_plan.specs.Floor.{PlainFloor, room_at, round_of}
-use Rattle.cqs_reports.specs.declared.states.Progress.{Progress}
-use Rattle.cqs_reports.specs.declared.states.Progress.TheVariants.{Stepping, Working, Waiting, Ended}
-use Rattle.cqs_reports.specs.Ready.{steps_left}
-use Rattle.cqs_shared.specs.Shared.{Shared, parties_at}
+use Rattle.cqs_turns_report.specs.declared.states.Progress.{Progress}
+use Rattle.cqs_turns_report.specs.declared.states.Progress.TheVariants.{Stepping, Working, Waiting, Ended}
+use Rattle.cqs_turns_report.specs.Ready.{steps_left}
+use Rattle.cqs_floor_shared.specs.Shared.{Shared, parties_at}
 
 -- how many takes of a resource, waits or arrivals there these steps have
 abbrev pub waits_in : ℕ → List Step → ℕ

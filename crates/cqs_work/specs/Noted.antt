@@ -5,8 +5,8 @@ use Rattle.cqs_core.specs.declared.entries.Entry.TheVariants as permit
 use Rattle.cqs_plan.specs.declared.plans.kind.Kind.{Kind}
 use Rattle.cqs_plan.specs.declared.plans.kind.Kind.TheVariants as kind
 use Rattle.cqs_plan.specs.FloorHistory.{History, of_permits, of_elements, of_latch, of_rounds}
-use Rattle.cqs_shared.specs.Entries.{Entries, at_permits, at_elements, at_latch, in_round, own_history}
-use Rattle.cqs_shared.specs.Shared.{kind_at, seen_at}
+use Rattle.cqs_floor_shared.specs.Entries.{Entries, at_permits, at_elements, at_latch, in_round, own_history}
+use Rattle.cqs_floor_shared.specs.Shared.{kind_at, seen_at}
 use Rattle.cqs_work.specs.declared.waits.Waited.{Waited}
 use Rattle.cqs_work.specs.Desk.{Desk}
 

@@ -5,12 +5,12 @@ use Rattle.cqs_core.specs.Numbered.{EachAt}
 use Rattle.cqs_plan.specs.declared.plans.plan.Plan.{Plan}
 use Rattle.cqs_plan.specs.Floor.{opening_floor}
 use Rattle.cqs_plan.specs.Runnable.{kinds_of}
-use Rattle.cqs_reports.specs.declared.states.End.TheVariants as end
-use Rattle.cqs_reports.specs.declared.states.JobState.{JobState}
-use Rattle.cqs_reports.specs.declared.states.Progress.{Progress}
-use Rattle.cqs_reports.specs.declared.states.Progress.TheVariants.{Stepping, Ended}
-use Rattle.cqs_shared.specs.Entries.{own_history, is_nothing}
-use Rattle.cqs_shared.specs.Shared.{Shared, IsLegalAt, seen_at}
+use Rattle.cqs_turns_report.specs.declared.states.End.TheVariants as end
+use Rattle.cqs_turns_report.specs.declared.states.JobState.{JobState}
+use Rattle.cqs_turns_report.specs.declared.states.Progress.{Progress}
+use Rattle.cqs_turns_report.specs.declared.states.Progress.TheVariants.{Stepping, Ended}
+use Rattle.cqs_floor_shared.specs.Entries.{own_history, is_nothing}
+use Rattle.cqs_floor_shared.specs.Shared.{Shared, IsLegalAt, seen_at}
 use Rattle.cqs_work.specs.Needs.{AreProvided}
 use Rattle.cqs_work.specs.declared.works.Post.{Post}
 

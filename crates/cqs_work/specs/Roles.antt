@@ -2,12 +2,12 @@
 use Rattle.std.specs.Prelude.{ℕ, List, Option}
 use Rattle.cqs_plan.specs.Floor.{round_of}
 use Rattle.cqs_plan.specs.declared.plans.step.Step.{Step}
-use Rattle.cqs_reports.specs.declared.actors.Actor.{Actor}
-use Rattle.cqs_reports.specs.declared.states.End.{End}
-use Rattle.cqs_reports.specs.declared.states.Progress.{Progress}
-use Rattle.cqs_reports.specs.Machine.{ActedIn, MadeIn, left_at, end_of, after_coming}
-use Rattle.cqs_reports.specs.Machine as machine
-use Rattle.cqs_reports.specs.Roles.{role}
+use Rattle.cqs_turns_report.specs.declared.actors.Actor.{Actor}
+use Rattle.cqs_turns_report.specs.declared.states.End.{End}
+use Rattle.cqs_turns_report.specs.declared.states.Progress.{Progress}
+use Rattle.cqs_turns_report.specs.Machine.{ActedIn, MadeIn, left_at, end_of, after_coming}
+use Rattle.cqs_turns_report.specs.Machine as machine
+use Rattle.cqs_turns_report.specs.Roles.{role}
 use Rattle.cqs_work.specs.Heard.{Heard, heard_world, come_heard, leave_heard, look_heard}
 
 -- nothing is left to be done

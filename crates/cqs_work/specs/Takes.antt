@@ -5,11 +5,11 @@ use Rattle.cqs_core.specs.declared.entries.Entry.TheVariants as permit
 use Rattle.cqs_plan.specs.declared.plans.job.Job.{Job}
 use Rattle.cqs_plan.specs.declared.plans.step.Step.{Step}
 use Rattle.cqs_plan.specs.PlanSteps.{is_take}
-use Rattle.cqs_reports.specs.declared.states.End.TheVariants as end
-use Rattle.cqs_reports.specs.declared.states.Progress.{Progress}
-use Rattle.cqs_reports.specs.declared.states.Progress.TheVariants.{Stepping, Working, Waiting, Ended}
-use Rattle.cqs_reports.specs.Ready.{steps_left}
-use Rattle.cqs_shared.specs.Shared.{Shared, seen_at}
+use Rattle.cqs_turns_report.specs.declared.states.End.TheVariants as end
+use Rattle.cqs_turns_report.specs.declared.states.Progress.{Progress}
+use Rattle.cqs_turns_report.specs.declared.states.Progress.TheVariants.{Stepping, Working, Waiting, Ended}
+use Rattle.cqs_turns_report.specs.Ready.{steps_left}
+use Rattle.cqs_floor_shared.specs.Shared.{Shared, seen_at}
 use Rattle.cqs_work.specs.Accounts.{Weights, sum_in}
 
 -- the entries by which a caller takes a permit at once, or comes to wait for one

@@ -10,13 +10,13 @@ use Rattle.cqs_plan.specs.declared.plans.job.Job.{Job}
 use Rattle.cqs_plan.specs.declared.plans.plan.Plan.{Plan}
 use Rattle.cqs_plan.specs.FloorHistory.{History, of_permits, of_elements, of_latch, of_rounds}
 use Rattle.cqs_plan.specs.Runnable.{kinds_of}
-use Rattle.cqs_reports.specs.declared.states.End.TheVariants as end
-use Rattle.cqs_reports.specs.declared.states.JobState.{JobState}
-use Rattle.cqs_reports.specs.declared.states.Progress.{Progress}
-use Rattle.cqs_reports.specs.declared.states.Progress.TheVariants.{Ended}
-use Rattle.cqs_shared.specs.Calls.{HaveAllMet, IsAtRest}
-use Rattle.cqs_shared.specs.Entries.{own_history}
-use Rattle.cqs_shared.specs.Shared.{Shared, IsLegalAt, kind_at, seen_at}
+use Rattle.cqs_turns_report.specs.declared.states.End.TheVariants as end
+use Rattle.cqs_turns_report.specs.declared.states.JobState.{JobState}
+use Rattle.cqs_turns_report.specs.declared.states.Progress.{Progress}
+use Rattle.cqs_turns_report.specs.declared.states.Progress.TheVariants.{Ended}
+use Rattle.cqs_floor_shared.specs.Calls.{HaveAllMet, IsAtRest}
+use Rattle.cqs_floor_shared.specs.Entries.{own_history}
+use Rattle.cqs_floor_shared.specs.Shared.{Shared, IsLegalAt, kind_at, seen_at}
 use Rattle.cqs_work.specs.declared.ends.JobEnd.{JobEnd}
 use Rattle.cqs_work.specs.declared.ends.JobEnd.TheVariants.{Unfinished}
 use Rattle.cqs_work.specs.declared.waits.WaitLine.{WaitLine}

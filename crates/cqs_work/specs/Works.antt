@@ -6,19 +6,19 @@ use Rattle.cqs_plan.specs.declared.plans.job.Job.{Job}
 use Rattle.cqs_plan.specs.declared.plans.plan.Plan.{Plan}
 use Rattle.cqs_plan.specs.Floor.{PlainFloor, wait_of}
 use Rattle.cqs_plan.specs.Runnable.{kinds_of}
-use Rattle.cqs_reports.specs.declared.actors.Actor.{Actor}
-use Rattle.cqs_reports.specs.declared.states.End.TheVariants as end
-use Rattle.cqs_reports.specs.declared.states.JobState.{JobState}
-use Rattle.cqs_reports.specs.declared.states.Progress.{Progress}
-use Rattle.cqs_reports.specs.declared.states.Progress.TheVariants.{Stepping, Working, Waiting, Ended}
-use Rattle.cqs_reports.specs.Machine.{Role, MachineIn}
-use Rattle.cqs_reports.specs.Machine as machine
-use Rattle.cqs_reports.specs.Ready.{IsReady, wait_in, steps_left}
-use Rattle.cqs_reports.specs.Roles.{role}
-use Rattle.cqs_reports.specs.Turns.{places_held}
+use Rattle.cqs_turns_report.specs.declared.actors.Actor.{Actor}
+use Rattle.cqs_turns_report.specs.declared.states.End.TheVariants as end
+use Rattle.cqs_turns_report.specs.declared.states.JobState.{JobState}
+use Rattle.cqs_turns_report.specs.declared.states.Progress.{Progress}
+use Rattle.cqs_turns_report.specs.declared.states.Progress.TheVariants.{Stepping, Working, Waiting, Ended}
+use Rattle.cqs_turns_report.specs.Machine.{Role, MachineIn}
+use Rattle.cqs_turns_report.specs.Machine as machine
+use Rattle.cqs_turns_report.specs.Ready.{IsReady, wait_in, steps_left}
+use Rattle.cqs_turns_report.specs.Roles.{role}
+use Rattle.cqs_turns_report.specs.Turns.{places_held}
 use Rattle.cqs_work.specs.declared.works.Post.{Post}
 use Rattle.cqs_work.specs.declared.works.Worker.{Worker}
-use Rattle.cqs_shared.specs.Shared.{Shared}
+use Rattle.cqs_floor_shared.specs.Shared.{Shared}
 use Rattle.cqs_work.specs.Adds.{Keeps}
 use Rattle.cqs_work.specs.Courses.{Went}
 use Rattle.cqs_work.specs.Desk.{Desk, desk}

@@ -3,10 +3,10 @@
 ghost use Rattle.std.specs.Prelude.{◌≡◌, ◌<◌, ◌∷◌, [], None, Some, slice_get, length, ◌==◌, IfSome, OnOk, IfOk};
 ghost use Rattle.std.specs.List.{position_from};
 ghost use Rattle.cqs_core.specs.Keyed.{without};
-ghost use Rattle.cqs_reports.specs.Turns.{places_held};
-ghost use Rattle.cqs_reports.specs.Machine.{end_of};
-ghost use Rattle.cqs_reports.specs.Ready.{with_place};
-ghost use Rattle.cqs_reports.specs.Roles.{wait_at, left_with, is_holdable_at};
+ghost use Rattle.cqs_turns_report.specs.Turns.{places_held};
+ghost use Rattle.cqs_turns_report.specs.Machine.{end_of};
+ghost use Rattle.cqs_turns_report.specs.Ready.{with_place};
+ghost use Rattle.cqs_turns_report.specs.Roles.{wait_at, left_with, is_holdable_at};
 ghost use Rattle.cqs_work.specs.Works.{IsClear};
 ghost use Rattle.cqs_work.specs.Hands.{at_hand};
 ghost use Rattle.cqs_work.specs.Adds.{EndsSo};
@@ -17,9 +17,9 @@ use crate::clerk::Clerk;
 use crate::gate::Gate;
 use crate::waits::note;
 use cqs_core::Memory;
+use cqs_floor_shared::SharedFloor;
 use cqs_plan::{FloorLeave, FloorLook, FloorTake, Step};
-use cqs_reports::{Actor, End, JobState, Progress};
-use cqs_shared::SharedFloor;
+use cqs_turns_report::{Actor, End, JobState, Progress};
 use std::sync::Wait;
 use std::thread::Threads;
 

@@ -2,13 +2,13 @@
 
 ghost use Rattle.std.specs.Prelude.{◌≡◌, ◌<◌};
 ghost use Rattle.cqs_plan.specs.Floor.{IsJob, IsHolding, IsWaiting, IsIdle, IsHoldable, IsLatch, HasRound, room_at, round_of};
-ghost use Rattle.cqs_shared.specs.Shared.{kind_at, parties_at};
-ghost use Rattle.cqs_shared.specs.Calls.{Takes, Gives, HasLooked, HasLeft, Downs, Waits, Arrives, answer_of};
+ghost use Rattle.cqs_floor_shared.specs.Shared.{kind_at, parties_at};
+ghost use Rattle.cqs_floor_shared.specs.Calls.{Takes, Gives, HasLooked, HasLeft, Downs, Waits, Arrives, answer_of};
 
 use crate::gate::Gate;
 use crate::waits::Waited;
+use cqs_floor_shared::{SharedFloor, SharedGive, Turned};
 use cqs_plan::{FloorDown, FloorLeave, FloorLook, FloorTake};
-use cqs_shared::{SharedFloor, SharedGive, Turned};
 use std::sync::Wait;
 use std::thread::Threads;
 

@@ -6,7 +6,7 @@ ghost use Rattle.cqs_work.specs.Opening.{starting, AreStarting, ArePosts};
 use crate::works::Post;
 use cqs_core::Memory;
 use cqs_plan::Plan;
-use cqs_reports::{End, JobState, Progress};
+use cqs_turns_report::{End, JobState, Progress};
 use std::alloc::Global;
 
 /// The job at a place goes to the worker `place % workers`. To the others it has ended.

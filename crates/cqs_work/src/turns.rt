@@ -2,9 +2,9 @@
 
 ghost use Rattle.std.specs.Prelude.{◌≡◌, ◌≤◌, ◌<◌, [], None, Some, length, slice_get, OnOk};
 ghost use Rattle.cqs_plan.specs.Runnable.{IsRunnable};
-ghost use Rattle.cqs_reports.specs.Ready.{wait_in};
-ghost use Rattle.cqs_reports.specs.Roles.{role};
-ghost use Rattle.cqs_reports.specs.Turns.{places_held};
+ghost use Rattle.cqs_turns_report.specs.Ready.{wait_in};
+ghost use Rattle.cqs_turns_report.specs.Roles.{role};
+ghost use Rattle.cqs_turns_report.specs.Turns.{places_held};
 ghost use Rattle.cqs_work.specs.Heard.{Hears};
 ghost use Rattle.cqs_work.specs.Roles.{same};
 ghost use Rattle.cqs_work.specs.Hands.{at_hand};
@@ -17,9 +17,9 @@ use crate::acts::{act, give_all, leave};
 use crate::clerk::Clerk;
 use crate::gate::Gate;
 use cqs_core::Memory;
+use cqs_floor_shared::SharedFloor;
 use cqs_plan::Plan;
-use cqs_reports::{Actor, JobState, Progress};
-use cqs_shared::SharedFloor;
+use cqs_turns_report::{Actor, JobState, Progress};
 use std::sync::Wait;
 use std::thread::Threads;
 

@@ -1,6 +1,6 @@
-use Rattle.cqs_reports.specs.Roles.{role, scene, told_served}
-use Rattle.cqs_reports.specs.Turns.{Role, Scene}
-use Rattle.cqs_reports.proofs.Growth.{leaves-off, go_on-grows}
+use Rattle.cqs_turns_report.specs.Roles.{role, scene, told_served}
+use Rattle.cqs_turns_report.specs.Turns.{Role, Scene}
+use Rattle.cqs_turns_report.proofs.Growth.{leaves-off, go_on-grows}
 use Rattle.cqs_turns.proofs.acts.be_served.Goals as goal
 
 pub returns-in_err-hold-clause-comes : goal.returns-in_err-hold-clause-comes

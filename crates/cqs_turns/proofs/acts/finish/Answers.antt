@@ -1,4 +1,4 @@
-use Rattle.cqs_reports.proofs.Growth.{leaves-off, prefix-added, prefix-through}
+use Rattle.cqs_turns_report.proofs.Growth.{leaves-off, prefix-added, prefix-through}
 use Rattle.cqs_turns.proofs.acts.finish.Goals as goal
 
 pub returns-in_err-give_all-clause-comes : goal.returns-in_err-give_all-clause-comes

@@ -1,7 +1,7 @@
-use Rattle.cqs_reports.specs.Coming.{text_in}
-use Rattle.cqs_reports.specs.Roles.{role, scene}
-use Rattle.cqs_reports.specs.Turns.{Role, Scene}
-use Rattle.cqs_reports.proofs.Growth.{comes-off}
+use Rattle.cqs_turns_report.specs.Coming.{text_in}
+use Rattle.cqs_turns_report.specs.Roles.{role, scene}
+use Rattle.cqs_turns_report.specs.Turns.{Role, Scene}
+use Rattle.cqs_turns_report.proofs.Growth.{comes-off}
 use Rattle.cqs_turns.proofs.GivingBack.{holds-next, gives-next, giving-prefix}
 use Rattle.cqs_turns.proofs.acts.give_all.Goals as goal
 

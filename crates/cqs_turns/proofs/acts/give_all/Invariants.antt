@@ -1,4 +1,4 @@
-use Rattle.cqs_reports.specs.Roles.{role, scene}
+use Rattle.cqs_turns_report.specs.Roles.{role, scene}
 use Rattle.cqs_turns.proofs.GivingBack.{GivingBack}
 use Rattle.cqs_turns.proofs.acts.give_all.Given as goal
 

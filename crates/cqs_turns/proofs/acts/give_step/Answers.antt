@@ -1,6 +1,6 @@
 use Rattle.std.proofs.Common.{[], ap}
-use Rattle.cqs_reports.specs.Turns.{Scene}
-use Rattle.cqs_reports.proofs.Readied.{can-give, holds-given, on_give-left}
+use Rattle.cqs_turns_report.specs.Turns.{Scene}
+use Rattle.cqs_turns_report.proofs.Readied.{can-give, holds-given, on_give-left}
 use Rattle.cqs_turns.proofs.acts.give_step.Goals as goal
 
 pub give-requires-clause-resource : goal.give-requires-clause-resource

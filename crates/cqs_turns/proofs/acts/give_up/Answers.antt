@@ -1,7 +1,7 @@
 use Rattle.cqs_plan.specs.FloorCalls.{leave_answer}
-use Rattle.cqs_reports.specs.Roles.{role, scene}
-use Rattle.cqs_reports.specs.Turns.{Role, Scene}
-use Rattle.cqs_reports.proofs.Growth.{leaves-off, after_giving_up-grows}
+use Rattle.cqs_turns_report.specs.Roles.{role, scene}
+use Rattle.cqs_turns_report.specs.Turns.{Role, Scene}
+use Rattle.cqs_turns_report.proofs.Growth.{leaves-off, after_giving_up-grows}
 use Rattle.cqs_turns.proofs.acts.give_up.Goals as goal
 
 pub returns-in_err-end-clause-comes : goal.returns-in_err-end-clause-comes

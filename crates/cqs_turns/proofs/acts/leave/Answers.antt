@@ -1,8 +1,8 @@
 use Rattle.std.proofs.Common.{[], sym, ap, ◌∙◌}
 use Rattle.cqs_plan.specs.Floor.{PlainFloor}
-use Rattle.cqs_reports.specs.Roles.{left_with, wait_at}
-use Rattle.cqs_reports.specs.Turns.{places_held}
-use Rattle.cqs_reports.proofs.Readied.{leave-held, leave-ready}
+use Rattle.cqs_turns_report.specs.Roles.{left_with, wait_at}
+use Rattle.cqs_turns_report.specs.Turns.{places_held}
+use Rattle.cqs_turns_report.proofs.Readied.{leave-held, leave-ready}
 use Rattle.cqs_turns.proofs.acts.leave.Goals as goal
 
 pub returns-clause-ready : goal.returns-clause-ready

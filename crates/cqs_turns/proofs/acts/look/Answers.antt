@@ -1,8 +1,8 @@
 use Rattle.std.proofs.Common.{drop, take, sym, ap, ◌∙◌}
-use Rattle.cqs_reports.specs.Ready.{with_place}
-use Rattle.cqs_reports.specs.Roles.{is_holdable_at, wait_at}
-use Rattle.cqs_reports.proofs.Moved.{look-room}
-use Rattle.cqs_reports.proofs.Readied.{after_looking-ready, look-held}
+use Rattle.cqs_turns_report.specs.Ready.{with_place}
+use Rattle.cqs_turns_report.specs.Roles.{is_holdable_at, wait_at}
+use Rattle.cqs_turns_report.proofs.Moved.{look-room}
+use Rattle.cqs_turns_report.proofs.Readied.{after_looking-ready, look-held}
 use Rattle.cqs_turns.proofs.acts.look.Goals as goal
 
 pub be_served-requires-clause-held : goal.be_served-requires-clause-held

@@ -1,7 +1,7 @@
 use Rattle.std.proofs.Common.{get_or, ap}
 use Rattle.cqs_plan.specs.declared.plans.step.Step.TheVariants.{Take}
-use Rattle.cqs_reports.proofs.Growth.{leaves-off}
-use Rattle.cqs_reports.proofs.Stepping.{next-step, ready-first, room-first, stepping-prefix, steps-on}
+use Rattle.cqs_turns_report.proofs.Growth.{leaves-off}
+use Rattle.cqs_turns_report.proofs.Stepping.{next-step, ready-first, room-first, stepping-prefix, steps-on}
 use Rattle.cqs_turns.proofs.acts.make_steps.Goals as goal
 
 pub returns-in_err-stops-clause-comes : goal.returns-in_err-stops-clause-comes

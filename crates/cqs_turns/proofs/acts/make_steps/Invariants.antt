@@ -1,7 +1,7 @@
 use Rattle.std.proofs.Common.{◌≡◌}
-use Rattle.cqs_reports.specs.Roles.{role, scene}
-use Rattle.cqs_reports.specs.Turns.{places_held}
-use Rattle.cqs_reports.proofs.Stepping.{SteppingOn}
+use Rattle.cqs_turns_report.specs.Roles.{role, scene}
+use Rattle.cqs_turns_report.specs.Turns.{places_held}
+use Rattle.cqs_turns_report.proofs.Stepping.{SteppingOn}
 use Rattle.cqs_turns.proofs.acts.make_steps.Given as goal
 
 abbrev pub invariant-loop-next : goal.invariant-loop-next

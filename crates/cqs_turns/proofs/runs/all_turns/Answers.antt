@@ -1,7 +1,7 @@
 use Rattle.std.proofs.Common.{subst, sym}
-use Rattle.cqs_reports.specs.Running.{IsRunning}
-use Rattle.cqs_reports.proofs.Growth.{on-err, prefix-of-later}
-use Rattle.cqs_reports.proofs.Opened.{opening-running}
+use Rattle.cqs_turns_report.specs.Running.{IsRunning}
+use Rattle.cqs_turns_report.proofs.Growth.{on-err, prefix-of-later}
+use Rattle.cqs_turns_report.proofs.Opened.{opening-running}
 use Rattle.cqs_turns.proofs.runs.all_turns.Goals as goal
 
 pub loop-turn-init : goal.loop-turn-init

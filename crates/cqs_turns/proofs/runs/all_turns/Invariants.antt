@@ -1,6 +1,6 @@
 use Rattle.std.proofs.Common.{◌≡◌}
-use Rattle.cqs_reports.specs.Running.{IsRunning, IsKept, machine_of}
-use Rattle.cqs_reports.specs.Turns.{machine_after}
+use Rattle.cqs_turns_report.specs.Running.{IsRunning, IsKept, machine_of}
+use Rattle.cqs_turns_report.specs.Turns.{machine_after}
 use Rattle.cqs_turns.proofs.runs.all_turns.Given as goal
 
 abbrev pub invariant-loop-turn : goal.invariant-loop-turn

@@ -1,5 +1,5 @@
 use Rattle.std.proofs.Common.{◌≡◌, vec_len}
-use Rattle.cqs_reports.specs.Running.{AreOpening}
+use Rattle.cqs_turns_report.specs.Running.{AreOpening}
 use Rattle.cqs_turns.proofs.runs.opening_states.Given as goal
 
 abbrev pub invariant-loop-job : goal.invariant-loop-job

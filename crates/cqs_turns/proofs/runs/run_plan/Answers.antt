@@ -1,9 +1,9 @@
 use Rattle.std.proofs.Common.{◌∙◌, length, ap, subst}
 use Rattle.cqs_core.specs.Parts.{IsPrefix}
-use Rattle.cqs_reports.specs.Report.{report_after}
-use Rattle.cqs_reports.specs.Running.{machine_of}
-use Rattle.cqs_reports.specs.Turns.{Machine, machine_after}
-use Rattle.cqs_reports.proofs.Growth.{on-err}
+use Rattle.cqs_turns_report.specs.Report.{report_after}
+use Rattle.cqs_turns_report.specs.Running.{machine_of}
+use Rattle.cqs_turns_report.specs.Turns.{Machine, machine_after}
+use Rattle.cqs_turns_report.proofs.Growth.{on-err}
 use Rattle.cqs_turns.proofs.Ends.{prefix-empty, prefix-ends, prefix-turns, opens}
 use Rattle.cqs_turns.proofs.runs.run_plan.Goals as goal
 

@@ -1,7 +1,7 @@
 use Rattle.std.proofs.Common.{get_or}
 use Rattle.std.proofs.lemmas.Result.{on_ok_weaker}
-use Rattle.cqs_reports.specs.Roles.{role}
-use Rattle.cqs_reports.proofs.Growth.{on-ok-both}
+use Rattle.cqs_turns_report.specs.Roles.{role}
+use Rattle.cqs_turns_report.proofs.Growth.{on-ok-both}
 use Rattle.cqs_turns.proofs.Jobs.{Acting, acting-at, acting-set, acting-room, one-job-ok, one-job-running, one-job-kept}
 use Rattle.cqs_turns.proofs.turns.one_job.Goals as goal
 

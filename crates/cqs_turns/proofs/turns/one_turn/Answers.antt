@@ -1,7 +1,7 @@
 use Rattle.std.proofs.Common.{◌<◌, length, ap, arith}
-use Rattle.cqs_reports.specs.Running.{machine_of}
-use Rattle.cqs_reports.specs.Turns.{Machine}
-use Rattle.cqs_reports.proofs.Growth.{on-err}
+use Rattle.cqs_turns_report.specs.Running.{machine_of}
+use Rattle.cqs_turns_report.specs.Turns.{Machine}
+use Rattle.cqs_turns_report.proofs.Growth.{on-err}
 use Rattle.cqs_turns.proofs.Turning.{turns_on, turning_prefix}
 use Rattle.cqs_turns.proofs.turns.one_turn.Goals as goal
 

@@ -1,4 +1,4 @@
-use Rattle.cqs_reports.specs.Running.{IsRunning, IsKept, machine_of}
+use Rattle.cqs_turns_report.specs.Running.{IsRunning, IsKept, machine_of}
 use Rattle.cqs_turns.proofs.Turning.{TurningOn}
 use Rattle.cqs_turns.proofs.turns.one_turn.Given as goal
 

@@ -1,6 +1,6 @@
 use Rattle.std.proofs.Common.{Some, ap, ◌∙◌, arith}
 use Rattle.cqs_plan.specs.declared.floors.answers.FloorTake.TheVariants.{Waits}
-use Rattle.cqs_shared.specs.Calls.{answer_of}
+use Rattle.cqs_floor_shared.specs.Calls.{answer_of}
 use Rattle.cqs_work.specs.Desk.{desk, with_answer}
 use Rattle.cqs_work.proofs.StepNeeds.{arrive-held, next-small}
 use Rattle.cqs_work.proofs.StepCalls.{arrive-did, arrives-in, arrive-room, arrive-party}

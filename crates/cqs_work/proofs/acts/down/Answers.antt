@@ -1,5 +1,5 @@
 use Rattle.std.proofs.Common.{ap}
-use Rattle.cqs_reports.specs.Turns.{places_held}
+use Rattle.cqs_turns_report.specs.Turns.{places_held}
 use Rattle.cqs_work.proofs.StepNeeds.{down-resource}
 use Rattle.cqs_work.proofs.StepCalls.{down-did}
 use Rattle.cqs_work.proofs.acts.down.Goals as goal

@@ -1,5 +1,5 @@
 use Rattle.std.proofs.Common.{sym, ◌∙◌}
-use Rattle.cqs_reports.proofs.Held.{remove-oldest, without-none}
+use Rattle.cqs_turns_report.proofs.Held.{remove-oldest, without-none}
 use Rattle.cqs_work.proofs.acts.forget_oldest.Goals as goal
 
 pub returns-in-Some : goal.returns-in-Some

@@ -1,5 +1,5 @@
 use Rattle.cqs_plan.specs.declared.floors.answers.FloorGive.TheVariants.{Free}
-use Rattle.cqs_reports.proofs.Readied.{on_give-left}
+use Rattle.cqs_turns_report.proofs.Readied.{on_give-left}
 use Rattle.cqs_work.proofs.StepNeeds.{give-resource, give-holds}
 use Rattle.cqs_work.proofs.StepCalls.{give-did}
 use Rattle.cqs_work.proofs.acts.give.Goals as goal

@@ -1,5 +1,5 @@
-use Rattle.cqs_reports.specs.Roles.{wait_at}
-use Rattle.cqs_reports.proofs.Readied.{leave-held}
+use Rattle.cqs_turns_report.specs.Roles.{wait_at}
+use Rattle.cqs_turns_report.proofs.Readied.{leave-held}
 use Rattle.cqs_work.proofs.WaitCalls.{leave-did, leave-ends}
 use Rattle.cqs_work.proofs.Acting.{if-ok, on-ok}
 use Rattle.cqs_work.proofs.acts.leave.Goals as goal

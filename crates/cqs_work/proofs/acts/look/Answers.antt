@@ -1,6 +1,6 @@
-use Rattle.cqs_reports.specs.Roles.{wait_at}
-use Rattle.cqs_reports.proofs.Readied.{look-held}
-use Rattle.cqs_reports.specs.declared.states.Progress.TheVariants.{Stepping, Waiting}
+use Rattle.cqs_turns_report.specs.Roles.{wait_at}
+use Rattle.cqs_turns_report.proofs.Readied.{look-held}
+use Rattle.cqs_turns_report.specs.declared.states.Progress.TheVariants.{Stepping, Waiting}
 use Rattle.cqs_work.specs.Desk.{desk}
 use Rattle.cqs_work.specs.Roles.{go_on, look_at, left_so}
 use Rattle.cqs_work.proofs.WaitCalls.{pending-did, granted-did}

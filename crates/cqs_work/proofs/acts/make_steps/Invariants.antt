@@ -1,5 +1,5 @@
 use Rattle.std.proofs.Common.{◌≡◌}
-use Rattle.cqs_reports.specs.Turns.{places_held}
+use Rattle.cqs_turns_report.specs.Turns.{places_held}
 use Rattle.cqs_work.specs.Desk.{desk}
 use Rattle.cqs_work.proofs.Acting.{SteppingOn}
 use Rattle.cqs_work.proofs.acts.make_steps.Given as goal

@@ -1,6 +1,6 @@
 use Rattle.std.proofs.Common.{Some, ap, ◌∙◌}
 use Rattle.cqs_plan.specs.declared.floors.answers.FloorTake.TheVariants.{Waits}
-use Rattle.cqs_shared.specs.Calls.{answer_of}
+use Rattle.cqs_floor_shared.specs.Calls.{answer_of}
 use Rattle.cqs_work.specs.Desk.{with_answer}
 use Rattle.cqs_work.proofs.StepNeeds.{take-resource, take-room}
 use Rattle.cqs_work.proofs.StepCalls.{take-did}

@@ -1,5 +1,5 @@
 use Rattle.std.proofs.Common.{refl, sym, ◌∙◌}
-use Rattle.cqs_reports.specs.declared.states.Progress.TheVariants.{Waiting}
+use Rattle.cqs_turns_report.specs.declared.states.Progress.TheVariants.{Waiting}
 use Rattle.cqs_work.proofs.Acting.{gave-up-did, looked-did, if-ok}
 use Rattle.cqs_work.proofs.acts.wait_on.Goals as goal
 

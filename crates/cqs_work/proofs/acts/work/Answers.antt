@@ -1,5 +1,5 @@
 use Rattle.std.proofs.Common.{refl}
-use Rattle.cqs_reports.specs.declared.states.Progress.TheVariants.{Working}
+use Rattle.cqs_turns_report.specs.declared.states.Progress.TheVariants.{Working}
 use Rattle.cqs_work.specs.Desk.{desk}
 use Rattle.cqs_work.proofs.Acting.{works-on, worked-can, worked-did, if-ok}
 use Rattle.cqs_work.proofs.acts.work.Goals as goal

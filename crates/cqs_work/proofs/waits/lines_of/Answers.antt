@@ -2,7 +2,7 @@ use Rattle.std.proofs.Common.{flat_map, get_or}
 use Rattle.std.proofs.lemmas.Option.{slice_get-get_or}
 use Rattle.cqs_plan.specs.declared.plans.resource.Resource.{Resource}
 use Rattle.cqs_plan.specs.Runnable.{kinds_of}
-use Rattle.cqs_reports.proofs.Mapped.{get-map}
+use Rattle.cqs_turns_report.proofs.Mapped.{get-map}
 use Rattle.cqs_work.proofs.Rowing.{lines-then}
 use Rattle.cqs_work.proofs.waits.lines_of.Goals as goal
 

@@ -1,5 +1,0 @@
-use Rattle.cqs_laws.proofs.JobStories.{every-job-has-its-story}
-use Rattle.cqs_laws.proofs.every_job_has_its_story.Goals as goal
-
-pub returns : goal.returns
-returns c = every-job-has-its-story

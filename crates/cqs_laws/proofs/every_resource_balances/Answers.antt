@@ -1,5 +1,0 @@
-use Rattle.cqs_laws.proofs.Balancing.{every-resource-balances}
-use Rattle.cqs_laws.proofs.every_resource_balances.Goals as goal
-
-pub returns : goal.returns
-returns c = every-resource-balances

@@ -1,5 +1,0 @@
-use Rattle.cqs_laws.proofs.OwnTurn.{no-wait-outlives}
-use Rattle.cqs_laws.proofs.no_wait_outlives_its_deadline.Goals as goal
-
-pub returns : goal.returns
-returns c = no-wait-outlives

@@ -1,5 +1,0 @@
-use Rattle.cqs_laws.proofs.Served.{no-wait-outlives-its-service}
-use Rattle.cqs_laws.proofs.no_wait_outlives_its_service.Goals as goal
-
-pub returns : goal.returns
-returns c = no-wait-outlives-its-service

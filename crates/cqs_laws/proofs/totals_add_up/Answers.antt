@@ -1,5 +1,0 @@
-use Rattle.cqs_laws.proofs.Counted.{totals-add-up}
-use Rattle.cqs_laws.proofs.totals_add_up.Goals as goal
-
-pub returns : goal.returns
-returns c = totals-add-up

@@ -1,0 +1,15 @@
+pub mod Growth
+pub mod Held
+pub mod ToCome
+pub mod Moved
+pub mod ArrivalMoves
+pub mod HoldablePlaces
+pub mod Readied
+pub mod Stepping
+pub mod Turned
+pub mod Opened
+pub mod RunningLemmas
+pub mod Mapped
+pub mod NoneTurnedAway
+pub mod KindsThere
+pub mod StepCounts

@@ -1,5 +1,0 @@
-use Rattle.cqs_any_shares.proofs.AnyShares.{any-lawful}
-use Rattle.cqs_any_shares.proofs.kinds.any.AnySharedSharedResource.law.Goals as goal
-
-pub returns : goal.returns
-returns c = any-lawful c.law.ensures c.law-2.ensures c.law-3.ensures c.law-4.ensures

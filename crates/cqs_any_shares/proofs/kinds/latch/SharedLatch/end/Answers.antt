@@ -1,8 +1,0 @@
-use Rattle.cqs_any_shares.proofs.LatchMeets.{latch-end, latch-few}
-use Rattle.cqs_any_shares.proofs.kinds.latch.SharedLatch.end.Goals as goal
-
-pub overflow_sub-result : goal.overflow_sub-result
-overflow_sub-result c = latch-few c.args.self.now c.args.kind c.counts.result c.counts.ensures c.requires
-
-pub returns : goal.returns
-returns c = latch-end c.args.self.now c.args.kind c.counts.result c.counts.ensures c.requires

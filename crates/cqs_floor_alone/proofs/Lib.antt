@@ -1,0 +1,16 @@
+pub mod Holdings
+pub mod Resources
+pub mod KeptNext
+pub mod Joining
+pub mod Passing
+pub mod Takes
+pub mod Gives
+pub mod Latches
+pub mod Arrivals
+pub mod WaitOver
+pub mod Looks
+pub mod Ends
+pub mod LegalFloors
+pub mod Opens
+pub mod Opened
+pub mod Called

@@ -1,0 +1,29 @@
+-- A history without looks that found nothing new: the object after it is the same, and it is legal as well.
+use Rattle.std.proofs.Common.{◌≡◌, ℕ, false, List, refl}
+use Rattle.cqs_core.specs.declared.entries.Entry.{Entry}
+use Rattle.cqs_core.specs.declared.entries.Entry.TheVariants as entry
+use Rattle.cqs_core.specs.SemaphoreEntries.{IsAllowed, IsLegal, after_entry, object_after}
+use Rattle.cqs_core.specs.SemaphoreObject.{Semaphore, opening}
+use Rattle.cqs_floor_alone_kinds.specs.SoleQueue.{is_news, news}
+use Rattle.cqs_floor_alone_kinds.proofs.FreshHistories.{fresh-legal, fresh-object}
+
+-- what an entry that is no news changes
+no-news : (o : Semaphore) (e : Entry) → is_news e ≡ false → after_entry o e ≡ o
+no-news o (entry.LookPending c k) old = refl
+no-news o (entry.TakeNow c) old = absurd (cc)
+no-news o (entry.TakeDoor c) old = absurd (cc)
+no-news o (entry.Enter c k) old = absurd (cc)
+no-news o (entry.TryGot c) old = absurd (cc)
+no-news o (entry.TryBusy c) old = absurd (cc)
+no-news o (entry.GiveFreed c) old = absurd (cc)
+no-news o (entry.GiveSent c) old = absurd (cc)
+no-news o (entry.Deliver k) old = absurd (cc)
+no-news o (entry.Leave c k) old = absurd (cc)
+no-news o (entry.Late c k) old = absurd (cc)
+no-news o (entry.LookGranted c k) old = absurd (cc)
+
+pub news-object : (size : ℕ) (es : List Entry) → object_after size (news es) ≡ object_after size es
+news-object size es = fresh-object IsAllowed after_entry is_news no-news (opening size) es
+
+pub news-legal : (size : ℕ) (es : List Entry) → IsLegal size es → IsLegal size (news es)
+news-legal size es legal = fresh-legal IsAllowed after_entry is_news no-news (opening size) es legal

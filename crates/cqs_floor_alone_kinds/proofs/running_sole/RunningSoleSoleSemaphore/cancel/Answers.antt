@@ -1,0 +1,18 @@
+use Rattle.cqs_floor_alone_kinds.specs.declared.running_sole.RunningSole.TheVariants.{Semaphore, Mutex}
+use Rattle.cqs_floor_alone_kinds.specs.SoleQueue.{sole_mutex, sole_queue}
+use Rattle.cqs_floor_alone_kinds.specs.SoleRunning.{sole_running}
+use Rattle.cqs_floor_alone_kinds.proofs.Among.{cancels-among}
+use Rattle.cqs_floor_alone_kinds.proofs.RunningLemmas.{mutex-among, semaphore-among}
+use Rattle.cqs_floor_alone_kinds.proofs.running_sole.RunningSoleSoleSemaphore.cancel.Goals as goal
+
+pub returns-in-Semaphore : goal.returns-in-Semaphore
+returns-in-Semaphore c =
+    rw c.in-Semaphore.is
+    (cancels-among sole_queue sole_running Semaphore semaphore-among c.in-Semaphore.sole
+    c.cancel.new.self c.args.wait c.cancel.result c.cancel.ensures)
+
+pub returns-in-Mutex : goal.returns-in-Mutex
+returns-in-Mutex c =
+    rw c.in-Mutex.is
+    (cancels-among sole_mutex sole_running Mutex mutex-among c.in-Mutex.sole
+    c.cancel-in-Mutex.new.self c.args.wait c.cancel-in-Mutex.result c.cancel-in-Mutex.ensures)

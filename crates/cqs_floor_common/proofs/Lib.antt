@@ -1,0 +1,4 @@
+pub mod Counting
+pub mod FirstHeld
+pub mod HeldElements
+pub mod Holdings

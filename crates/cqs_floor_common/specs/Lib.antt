@@ -1,0 +1,3 @@
+pub mod HeldElements
+pub mod Holdings
+pub mod Room

@@ -1,0 +1,11 @@
+pub mod Shares
+pub mod ShareCalls
+pub mod Families
+pub mod Runs
+pub mod Accounts
+pub mod PermitAccounts
+pub mod PermitRuns
+pub mod PermitShares
+pub mod PoolAccounts
+pub mod PoolRuns
+pub mod PoolShares

@@ -1,5 +1,0 @@
-use Rattle.cqs_shares.proofs.PoolMeets.{pool-end}
-use Rattle.cqs_shares.proofs.kinds.pool.SharedPool.end.Goals as goal
-
-pub returns : goal.returns
-returns c = pool-end c.args.self.now c.args.kind c.elements.result c.elements.ensures c.requires

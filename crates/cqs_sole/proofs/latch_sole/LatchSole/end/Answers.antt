@@ -1,5 +1,0 @@
-use Rattle.cqs_sole.proofs.LatchSole.{latch-tells}
-use Rattle.cqs_sole.proofs.latch_sole.LatchSole.end.Goals as goal
-
-pub returns : goal.returns
-returns c = latch-tells c.args.self.now c.args._kind

@@ -1,5 +1,0 @@
-use Rattle.cqs_sole.proofs.BarrierSole.{rounds-tell}
-use Rattle.cqs_sole.proofs.rounds_sole.RoundsSole.end.Goals as goal
-
-pub returns : goal.returns
-returns c = rounds-tell c.args.self.now c.args._kind

@@ -1,5 +1,4 @@
 pub mod MeaningLemmas
-pub mod KeptLemmas
 pub mod PlanLemmas
 pub mod WordLemmas
 pub mod RunFloors

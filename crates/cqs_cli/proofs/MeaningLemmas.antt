@@ -1,16 +1,24 @@
--- From a verdict that is right and was told to what the status means.
-use Rattle.std.proofs.Common.{◌≡◌, ℕ, ◌≤◌, inl, inr, Bool, List, length, Option, Some, None, ap, sym, ◌∙◌, subst, arith, refl, length-append, lit<}
-use Rattle.cqs_streams.specs.Counts.{Rises}
-use Rattle.cqs_streams.specs.declared.streams.tally.Tally.{Tally}
-use Rattle.cqs_streams.specs.Stream.{GivesCount, IsAll}
+-- A verdict that is right and was told is a call of the program.
+use Rattle.std.proofs.Common.{◌≡◌, ℕ, ◌+◌, ◌≤◌, ◌⊎◌, inl, inr, List, length, Option, Some, None, IsTrue, ap, sym, ◌∙◌, subst, arith, refl, length-append, lit<, rules}
+use Rattle.cqs_cli_streams.specs.Counts.{Rises}
+use Rattle.cqs_cli_streams.specs.declared.streams.reading.TheConstants.{LONGEST_INPUT}
+use Rattle.cqs_cli_streams.specs.declared.streams.sink.Sink.{Ghosts as Sink}
+use Rattle.cqs_cli_streams.specs.declared.streams.source.Source.{Ghosts as Source}
+use Rattle.cqs_cli_streams.specs.declared.streams.tally.Tally.{Tally}
+use Rattle.cqs_cli_streams.specs.Stream.{GivesAtMost, GivesCount, IsAll}
+use Rattle.cqs_cli.specs.Commands.{commands}
+use Rattle.cqs_cli.specs.Contract.{IsCallOf}
 use Rattle.cqs_cli.specs.Input.{IsInput}
-use Rattle.cqs_cli.specs.Meanings.{BrokeOff, IsStatus, MustEnd}
+use Rattle.cqs_cli.specs.KeptRuns.{IsNoRun, Keeps, KeptText}
+use Rattle.cqs_cli.specs.Meanings.{BrokeOff, HasTold, IsStatus, MustEnd}
 use Rattle.cqs_cli.specs.Plans.{IsPlan}
 use Rattle.cqs_cli.proofs.PlanLemmas.{plan_has_no_fault}
 use Rattle.cqs_cli.proofs.WordLemmas.{one_command}
-use Rattle.cqs_cli.specs.Tellings.{Tells}
-use Rattle.cqs_cli.specs.Verdicts.{HasTaken, IsVerdict, IsVerdictFor}
-use Rattle.cqs_cli.specs.Words.{IsGen, IsRun, IsSomeGen, usage}
+use Rattle.cqs_cli.specs.Tellings.{Broke, Tells, Wrote}
+use Rattle.cqs_cli.specs.Verdicts.{HasTaken, IsVerdict}
+use Rattle.cqs_cli.specs.Words.{IsRun, IsSomeGen, usage}
+use Rattle.cqs_cli.specs.declared.kept.Kept.{Kept}
+use Rattle.cqs_cli.specs.declared.kept.Kept.TheVariants.{Nothing}
 use Rattle.cqs_cli.specs.declared.verdict.Verdict.{Verdict}
 use Rattle.cqs_cli.specs.declared.verdict.Verdict.TheVariants as verdict
 
@@ -41,41 +49,41 @@ gave_as_many count told (Some all) after (bytes, many, (rest, whole, _)) tells =
     omega (arith, ap length (sym same ∙ whole), length-append bytes rest)
 
 -- no call of a sink comes after one that stopped
-pub stops-once : {K : Type 0} (held : K → Option (List ℕ)) (is_flushed : K → Bool) (faults : K → ℕ)
-    (tally : K → Tally) (old new : K) (given : Verdict) (status : ℕ)
-    → Tells held is_flushed faults tally given status old new
-    → (tally old).stops ≡ 0 → (tally new).stops ≤ 1
-stops-once held is_flushed faults tally old new verdict.NoCommand status (inl (is, wrote)) none =
+pub stops-once : {K : Type 0} (of_sink : Sink K) (old new : K) (given : Verdict) (status : ℕ)
+    → Tells of_sink given status old new → (of_sink.tally old).stops ≡ 0 → (of_sink.tally new).stops ≤ 1
+stops-once of_sink old new verdict.NoCommand status (inl (is, wrote)) none =
     omega (arith, wrote.counted.stops none)
-stops-once held is_flushed faults tally old new verdict.NoCommand status (inr (is, broke)) none =
+stops-once of_sink old new verdict.NoCommand status (inr (is, broke)) none =
     omega (arith, broke.counted.stops none)
-stops-once held is_flushed faults tally old new (verdict.Report text) status (inl (is, wrote)) none =
+stops-once of_sink old new (verdict.Report text) status (inl (is, wrote)) none =
     omega (arith, wrote.counted.stops none)
-stops-once held is_flushed faults tally old new (verdict.Report text) status (inr (is, broke)) none =
+stops-once of_sink old new (verdict.Report text) status (inr (is, broke)) none =
     omega (arith, broke.counted.stops none)
-stops-once held is_flushed faults tally old new (verdict.Summary text) status (inl (is, wrote)) none =
+stops-once of_sink old new (verdict.Summary text) status (inl (is, wrote)) none =
     omega (arith, wrote.counted.stops none)
-stops-once held is_flushed faults tally old new (verdict.Summary text) status (inr (is, broke)) none =
+stops-once of_sink old new (verdict.Summary text) status (inr (is, broke)) none =
     omega (arith, broke.counted.stops none)
-stops-once held is_flushed faults tally old new (verdict.NoPlan line) status (inl (is, wrote)) none =
+stops-once of_sink old new (verdict.NoPlan line) status (inl (is, wrote)) none =
     omega (arith, wrote.counted.stops none)
-stops-once held is_flushed faults tally old new (verdict.NoPlan line) status (inr (is, broke)) none =
+stops-once of_sink old new (verdict.NoPlan line) status (inr (is, broke)) none =
     omega (arith, broke.counted.stops none)
-stops-once held is_flushed faults tally old new verdict.SourceFailed status (is, same) none =
+stops-once of_sink old new verdict.SourceFailed status (is, same) none =
     rw same (rw none (omega arith))
-stops-once held is_flushed faults tally old new verdict.NoMemory status (is, same) none =
+stops-once of_sink old new verdict.NoMemory status (is, same) none =
     rw same (rw none (omega arith))
-stops-once held is_flushed faults tally old new verdict.TooLong status (is, same) none =
+stops-once of_sink old new verdict.TooLong status (is, same) none =
     rw same (rw none (omega arith))
 
-module _ {S K : Type 0} (left : S → Option (List ℕ)) (source_faults : S → ℕ)
-    (held : K → Option (List ℕ)) (is_flushed : K → Bool) (sink_faults : K → ℕ) (sink_tally : K → Tally)
-    (words : List (List ℕ)) (source source_after : S) (sink sink_after : K) where
+module _ {S K : Type 0} (of_source : Source S) (of_sink : Sink K) (words : List (List ℕ))
+    (source source_after : S) (sink sink_after : K) where
+  open of_source use {left, faults as source_faults, tally}
+  open of_sink use {held, is_flushed, faults as sink_faults, tally as sink_tally}
+
   -- a verdict that is right, and was told with this status
   abbrev Ends : Verdict → ℕ → Type 0
   Ends given status =
       IsVerdict left source_faults words given source source_after
-      × Tells held is_flushed sink_faults sink_tally given status sink sink_after
+      × Tells of_sink given status sink sink_after
 
   -- the status of a verdict that was told is one of those that there are
   pub is_status : (given : Verdict) (status : ℕ) → Ends given status → IsStatus status
@@ -210,15 +218,136 @@ module _ {S K : Type 0} (left : S → Option (List ℕ)) (source_faults : S → 
   leaves_source verdict.NoMemory (_, _, untouched) other = untouched other
   leaves_source verdict.TooLong (run, _, _) other = absurd (other run)
 
-  -- what a verdict on the plan of a number says of the words that ask for it
-  pub for_words : (number jobs : ℕ) → IsGen number jobs words → (given : Verdict) → IsVerdictFor number jobs given
-      → source_after ≡ source → IsVerdict left source_faults words given source source_after
-  for_words number jobs gen (verdict.Summary text) right untouched =
-      (record { number = number; jobs = jobs; asked = gen; right = right }, untouched)
-  for_words number jobs gen verdict.NoMemory right untouched =
-      (inr (number, (jobs, gen)), ap source_faults untouched, λ other. untouched)
-  for_words number jobs gen (verdict.Report text) right untouched = absurd right
-  for_words number jobs gen (verdict.NoPlan line) right untouched = absurd right
-  for_words number jobs gen verdict.NoCommand right untouched = absurd right
-  for_words number jobs gen verdict.SourceFailed right untouched = absurd right
-  for_words number jobs gen verdict.TooLong right untouched = absurd right
+  -- with status 0 the report of a plan was written, or a summary
+  pub headline : (given : Verdict) (status : ℕ) → Ends given status → status ≡ 0
+      → HasTold words (left source) (left source_after) (held sink) (held sink_after)
+      × IsTrue (is_flushed sink_after)
+  headline (verdict.Report text) status ((run, calm, read), inl (is, wrote)) zero = (
+    inl (
+      run,
+      record { bytes = read.bytes; input = read.input; text = text.items; report = read.right; written = wrote.whole },
+    ),
+    wrote.flushed,
+  )
+  headline (verdict.Summary text) status ((summary, untouched), inl (is, wrote)) zero =
+      (inr (record { text = text.items; summary = summary; written = wrote.whole }), wrote.flushed)
+  headline (verdict.Summary text) status (judged, inr (is, broke)) zero = absurd (omega (arith, is, zero))
+  headline (verdict.Report text) status (judged, inr (is, broke)) zero = absurd (omega (arith, is, zero))
+  headline verdict.NoCommand status (judged, inl (is, wrote)) zero = absurd (omega (arith, is, zero))
+  headline verdict.NoCommand status (judged, inr (is, broke)) zero = absurd (omega (arith, is, zero))
+  headline (verdict.NoPlan line) status (judged, inl (is, wrote)) zero = absurd (omega (arith, is, zero))
+  headline (verdict.NoPlan line) status (judged, inr (is, broke)) zero = absurd (omega (arith, is, zero))
+  headline verdict.SourceFailed status (judged, (is, untouched)) zero = absurd (omega (arith, is, zero))
+  headline verdict.NoMemory status (judged, (is, untouched)) zero = absurd (omega (arith, is, zero))
+  headline verdict.TooLong status (judged, (is, untouched)) zero = absurd (omega (arith, is, zero))
+
+  module _ (kept kept_after : Kept) where
+    -- what was kept with a verdict
+    abbrev KeptWith : Verdict → Type 0
+    KeptWith given = Keeps words given (left source) (left source_after) kept kept_after
+
+    -- with status 0 the floor of the run is kept whose text was written
+    pub kept_done : (given : Verdict) (status : ℕ) → Ends given status → KeptWith given → status ≡ 0
+        → KeptText words (left source) (left source_after) kept_after
+        (λ text. Wrote of_sink text sink sink_after)
+    kept_done (verdict.Report text) status ((run, _, _), inl (is, wrote)) keeps zero = inl (
+      run,
+      record {
+        bytes = keeps.bytes;
+        input = keeps.input;
+        text = keeps.text;
+        run = keeps.run;
+        holds = rw keeps.holds wrote;
+      },
+    )
+    kept_done (verdict.Summary text) status (judged, inl (is, wrote)) keeps zero = inr (record {
+      number = keeps.number;
+      jobs = keeps.jobs;
+      asked = keeps.asked;
+      run = keeps.run;
+      holds = subst (λ made. Wrote of_sink made sink sink_after) (sym keeps.holds) wrote;
+    })
+    kept_done (verdict.Summary text) status (judged, inr (is, broke)) keeps zero = absurd (omega (arith, is, zero))
+    kept_done (verdict.Report text) status (judged, inr (is, broke)) keeps zero = absurd (omega (arith, is, zero))
+    kept_done verdict.NoCommand status (judged, inl (is, wrote)) keeps zero = absurd (omega (arith, is, zero))
+    kept_done verdict.NoCommand status (judged, inr (is, broke)) keeps zero = absurd (omega (arith, is, zero))
+    kept_done (verdict.NoPlan line) status (judged, inl (is, wrote)) keeps zero = absurd (omega (arith, is, zero))
+    kept_done (verdict.NoPlan line) status (judged, inr (is, broke)) keeps zero = absurd (omega (arith, is, zero))
+    kept_done verdict.SourceFailed status (judged, (is, untouched)) keeps zero = absurd (omega (arith, is, zero))
+    kept_done verdict.NoMemory status (judged, (is, untouched)) keeps zero = absurd (omega (arith, is, zero))
+    kept_done verdict.TooLong status (judged, (is, untouched)) keeps zero = absurd (omega (arith, is, zero))
+
+    -- where the sink failed, the floor is kept of the run whose text broke off, and nothing more where there was none
+    pub kept_broken : (given : Verdict) (status : ℕ) → Ends given status → KeptWith given → kept ≡ Nothing → status ≡ 5
+        → KeptText words (left source) (left source_after) kept_after
+        (λ text. Broke of_sink text sink sink_after)
+        ⊎ ((kept_after ≡ Nothing) × IsNoRun words (left source) (left source_after))
+    kept_broken (verdict.Report text) status ((run, _, _), inr (is, broke)) keeps empty five = inl (inl (
+      run,
+      record {
+        bytes = keeps.bytes;
+        input = keeps.input;
+        text = keeps.text;
+        run = keeps.run;
+        holds = rw keeps.holds broke;
+      },
+    ))
+    kept_broken (verdict.Summary text) status (judged, inr (is, broke)) keeps empty five = inl (inr (record {
+      number = keeps.number;
+      jobs = keeps.jobs;
+      asked = keeps.asked;
+      run = keeps.run;
+      holds = subst (λ made. Broke of_sink made sink sink_after) (sym keeps.holds) broke;
+    }))
+    kept_broken (verdict.Summary text) status (judged, inl (is, wrote)) keeps empty five =
+        absurd (omega (arith, is, five))
+    kept_broken (verdict.Report text) status (judged, inl (is, wrote)) keeps empty five =
+        absurd (omega (arith, is, five))
+    kept_broken verdict.NoCommand status ((wrong, untouched), inr (is, broke)) keeps empty five =
+        inr (keeps ∙ empty, inl wrong)
+    kept_broken verdict.NoCommand status (judged, inl (is, wrote)) keeps empty five =
+        absurd (omega (arith, is, five))
+    kept_broken (verdict.NoPlan line) status ((run, calm, read), inr (is, broke)) keeps empty five =
+        inr (keeps ∙ empty, inr (run, (read.bytes, read.input, (line.items, read.right))))
+    kept_broken (verdict.NoPlan line) status (judged, inl (is, wrote)) keeps empty five =
+        absurd (omega (arith, is, five))
+    kept_broken verdict.SourceFailed status (judged, (is, untouched)) keeps empty five =
+        absurd (omega (arith, is, five))
+    kept_broken verdict.NoMemory status (judged, (is, untouched)) keeps empty five =
+        absurd (omega (arith, is, five))
+    kept_broken verdict.TooLong status (judged, (is, untouched)) keeps empty five =
+        absurd (omega (arith, is, five))
+
+    -- the whole contract of a call
+    pub is_call : (given : Verdict) (status : ℕ) → Ends given status → KeptWith given
+        → GivesAtMost (LONGEST_INPUT + 1) (left source) (left source_after)
+        → HasTaken given (tally source) (tally source_after) → kept ≡ Nothing
+        → IsCallOf commands of_source of_sink words source source_after sink sink_after kept_after status
+    is_call given status ended keeps taken counted empty = record {
+      headline = headline given status ended;
+      no_command = search rules;
+      no_plan = search rules;
+      source_failed = search rules;
+      sink_failed = broke_off given status ended;
+      no_memory = search rules;
+      too_long = search rules;
+      statuses = is_status given status ended;
+      unread = leaves_source given ended.0;
+      taken = taken;
+      given = search rules;
+      stops = search rules;
+      ended = λ run room short. was-ended given status ended _ _ counted run room short;
+      too_many = search rules;
+      many_bytes = search rules;
+      source_calm = search rules;
+      sink_calm = search rules;
+      sink_stops = stops-once of_sink sink sink_after given status ended.1;
+      wrong_words = search rules;
+      wrong_input = answers_fault given status ended;
+      long_input = search rules;
+      complete = answers_plan given status ended;
+      complete_gen = answers_number given status ended;
+      kept_done = kept_done given status ended keeps;
+      kept_broken = kept_broken given status ended keeps empty;
+      kept_nothing = search rules;
+    }

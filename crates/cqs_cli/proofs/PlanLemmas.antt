@@ -1,6 +1,6 @@
 -- What follows from which bytes are a plan.
 use Rattle.std.proofs.Common.{ℕ, List, inl, inr}
-use Rattle.cqs_reader.proofs.OneAnswer.{faultless}
+use Rattle.cqs_plan_reader.proofs.OneAnswer.{faultless}
 use Rattle.cqs_cli.specs.Plans.{IsFaultLine, IsPlan}
 
 -- a plan is not answered by a line that says what is wrong

@@ -7,16 +7,16 @@ use Rattle.cqs_plan.specs.declared.plans.plan.Plan.{Plan}
 use Rattle.cqs_plan.specs.declared.plans.resource.Resource.{Resource}
 use Rattle.cqs_plan.specs.Floor.{history_at}
 use Rattle.cqs_plan.specs.LegalFloor.{IsLegalFor}
-use Rattle.cqs_sole.specs.declared.any_sole.AnySole.{AnySole}
-use Rattle.cqs_sole.specs.declared.any_sole.AnySole.TheVariants as any
-use Rattle.cqs_sole.specs.declared.running_sole.RunningSole.{RunningSole}
-use Rattle.cqs_sole.specs.declared.running_sole.RunningSole.TheVariants.{Semaphore, Mutex}
-use Rattle.cqs_floors.specs.Kept.{IsKept}
+use Rattle.cqs_floor_alone_kinds.specs.declared.any_sole.AnySole.{AnySole}
+use Rattle.cqs_floor_alone_kinds.specs.declared.any_sole.AnySole.TheVariants as any
+use Rattle.cqs_floor_alone_kinds.specs.declared.running_sole.RunningSole.{RunningSole}
+use Rattle.cqs_floor_alone_kinds.specs.declared.running_sole.RunningSole.TheVariants.{Semaphore, Mutex}
+use Rattle.cqs_floor_alone.specs.Kept.{IsKept}
 use Rattle.cqs_cli.specs.KeptRuns.{HasRun}
-use Rattle.cqs_floors.specs.Ledger.{Ledger, plain_floor}
+use Rattle.cqs_floor_alone.specs.Ledger.{Ledger, plain_floor}
 use Rattle.cqs_cli.specs.Plans.{floor_after}
-use Rattle.cqs_sole.specs.SoleRunning.{IsAlone, IsAloneAt, sole_running, store_running}
-use Rattle.cqs_floors.proofs.Resources.{history-there}
+use Rattle.cqs_floor_alone_kinds.specs.SoleRunning.{IsAlone, IsAloneAt, sole_running, store_running}
+use Rattle.cqs_floor_alone.proofs.Resources.{history-there}
 
 funded-alone : (x : RunningSole) (kind : Option Kind) (room waiting held : ℕ)
     → sole_running.funded x kind room waiting held → IsAlone kind x

@@ -1,7 +1,7 @@
 -- What is written for the plan of a number.
 use Rattle.std.proofs.Common.{◌≡◌, ℕ, List, ◌++◌, subst}
 use Rattle.cqs_plan.specs.declared.plans.plan.Plan.{Plan}
-use Rattle.cqs_reports.specs.Report.{summary_of}
+use Rattle.cqs_turns_report.specs.Report.{summary_of}
 use Rattle.cqs_cli.specs.KeptRuns.{KeepsRun}
 use Rattle.cqs_cli.specs.declared.kept.Kept.{Kept}
 

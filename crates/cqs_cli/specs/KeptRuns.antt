@@ -4,15 +4,15 @@ use Rattle.cqs_plan.specs.declared.plans.kind.Kind.{Kind}
 use Rattle.cqs_plan.specs.declared.plans.plan.Plan.{Plan}
 use Rattle.cqs_plan.specs.Floor.{history_at}
 use Rattle.cqs_plan.specs.FloorHistory.{History}
-use Rattle.cqs_reader.specs.PlanText.{IsPlanText}
+use Rattle.cqs_plan_reader.specs.PlanText.{IsPlanText}
 use Rattle.cqs_plan.specs.Runnable.{kinds_of}
-use Rattle.cqs_generator.specs.Generated.{plan_of_number}
-use Rattle.cqs_reports.specs.Report.{report_of}
-use Rattle.cqs_sole.specs.declared.any_sole.AnySole.{AnySole}
-use Rattle.cqs_sole.specs.declared.running_sole.RunningSole.{RunningSole}
+use Rattle.cqs_plan_generator.specs.Generated.{plan_of_number}
+use Rattle.cqs_turns_report.specs.Report.{report_of}
+use Rattle.cqs_floor_alone_kinds.specs.declared.any_sole.AnySole.{AnySole}
+use Rattle.cqs_floor_alone_kinds.specs.declared.running_sole.RunningSole.{RunningSole}
 use Rattle.cqs_cli.specs.Input.{IsInput}
-use Rattle.cqs_floors.specs.Ledger.{Ledger, plain_floor}
-use Rattle.cqs_sole.specs.SoleRunning.{IsAloneAt, store_running}
+use Rattle.cqs_floor_alone.specs.Ledger.{Ledger, plain_floor}
+use Rattle.cqs_floor_alone_kinds.specs.SoleRunning.{IsAloneAt, store_running}
 use Rattle.cqs_cli.specs.Plans.{IsFaultLine, floor_after}
 use Rattle.cqs_cli.specs.Summaries.{summary_text}
 use Rattle.cqs_cli.specs.Words.{IsCommand, IsGen, IsRun}

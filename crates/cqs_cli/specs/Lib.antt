@@ -7,3 +7,5 @@ pub mod Tellings
 pub mod Verdicts
 pub mod Words
 pub mod KeptRuns
+pub mod Contract
+pub mod Commands

@@ -1,8 +1,8 @@
 -- What the statuses of the program mean.
 use Rattle.std.specs.Prelude.{◌≡◌, ℕ, ◌⊎◌, List, [], ◌∷◌, length, Option, Contains}
-use Rattle.cqs_streams.specs.Stream.{Gains, GainsPrefix}
-use Rattle.cqs_streams.specs.Tally.{StopsAfter, StopsWithin}
-use Rattle.cqs_streams.specs.declared.streams.tally.Tally.{Tally}
+use Rattle.cqs_cli_streams.specs.Stream.{Gains, GainsPrefix}
+use Rattle.cqs_cli_streams.specs.Tally.{StopsAfter, StopsWithin}
+use Rattle.cqs_cli_streams.specs.declared.streams.tally.Tally.{Tally}
 use Rattle.cqs_cli.specs.Input.{IsInput}
 use Rattle.cqs_cli.specs.Plans.{IsFaultLine, IsReport}
 use Rattle.cqs_cli.specs.Summaries.{IsSummary}

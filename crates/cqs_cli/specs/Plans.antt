@@ -5,9 +5,9 @@ use Rattle.cqs_plan.specs.declared.plans.plan.Plan.{Plan}
 use Rattle.cqs_plan.specs.FaultLine.{line_of}
 use Rattle.cqs_plan.specs.Floor.{PlainFloor}
 use Rattle.cqs_plan.specs.LegalFloor.{IsLegalFor}
-use Rattle.cqs_reader.specs.PlanText.{IsFirstFault, IsNoToml, IsPlanText}
-use Rattle.cqs_reports.specs.Report.{report_of}
-use Rattle.cqs_reports.specs.Turns.{machine_after}
+use Rattle.cqs_plan_reader.specs.PlanText.{IsFirstFault, IsNoToml, IsPlanText}
+use Rattle.cqs_turns_report.specs.Report.{report_of}
+use Rattle.cqs_turns_report.specs.Turns.{machine_after}
 
 -- the bytes are a plan
 abbrev pub IsPlan : List ℕ → Type 0

@@ -1,8 +1,8 @@
 -- What is known of the standard streams.
 use Rattle.std.specs.Prelude.{◌≡◌, ℕ, Bool, false, ◌||◌, List, Result, Ok, Err}
-use Rattle.cqs_streams.specs.Counts.{Rises}
-use Rattle.cqs_streams.specs.declared.streams.failed.Failed.{Failed}
-use Rattle.cqs_streams.specs.declared.streams.tally.Tally.{Tally}
+use Rattle.cqs_cli_streams.specs.Counts.{Rises}
+use Rattle.cqs_cli_streams.specs.declared.streams.failed.Failed.{Failed}
+use Rattle.cqs_cli_streams.specs.declared.streams.tally.Tally.{Tally}
 
 -- what standard input counted: its reads, and how often it failed
 pub record StandardInput : Type 0 where

@@ -2,8 +2,8 @@
 use Rattle.std.specs.Prelude.{◌≡◌, ℕ, List, ◌++◌, codes}
 use Rattle.std.specs.Fmt.{decimal}
 use Rattle.cqs_plan.specs.LegalFloor.{IsLegalFor}
-use Rattle.cqs_generator.specs.Generated.{plan_of_number}
-use Rattle.cqs_reports.specs.Report.{summary_of}
+use Rattle.cqs_plan_generator.specs.Generated.{plan_of_number}
+use Rattle.cqs_turns_report.specs.Report.{summary_of}
 use Rattle.cqs_cli.specs.Plans.{floor_after}
 use Rattle.cqs_cli.specs.Words.{IsGen}
 

@@ -1,15 +1,16 @@
 -- What telling a verdict does to the sink, and the status that it gives.
-use Rattle.std.specs.Prelude.{◌≡◌, ℕ, ◌⊎◌, Bool, List, length, Option, IsTrue}
-use Rattle.cqs_streams.specs.Stream.{Gains, GainsPrefix, Rises}
-use Rattle.cqs_streams.specs.Tally.{StopsAfter, StopsWithin}
-use Rattle.cqs_streams.specs.declared.streams.tally.Tally.{Tally}
+use Rattle.std.specs.Prelude.{◌≡◌, ℕ, ◌⊎◌, List, length, IsTrue}
+use Rattle.cqs_cli_streams.specs.Stream.{Gains, GainsPrefix, Rises}
+use Rattle.cqs_cli_streams.specs.Tally.{StopsAfter, StopsWithin}
+use Rattle.cqs_cli_streams.specs.declared.streams.sink.Sink.{Ghosts as Sink}
 use Rattle.cqs_cli.specs.Words.{usage}
 use Rattle.cqs_cli.specs.declared.statuses.TheConstants.{DONE, NO_COMMAND, NO_MEMORY, NO_PLAN, SINK_FAILED, SOURCE_FAILED, TOO_LONG}
 use Rattle.cqs_cli.specs.declared.verdict.Verdict.{Verdict}
 use Rattle.cqs_cli.specs.declared.verdict.Verdict.TheVariants as verdict
 
-module _ {K : Type 0} (held : K → Option (List ℕ)) (is_flushed : K → Bool) (faults : K → ℕ)
-    (tally : K → Tally) where
+module _ {K : Type 0} (sink : Sink K) where
+  open sink use {held, is_flushed, faults, tally}
+
   -- the whole text was written and flushed
   pub record Wrote (text : List ℕ) (old new : K) : Type 0 where
     pub whole : Gains text (held old) (held new)

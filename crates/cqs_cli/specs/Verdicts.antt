@@ -1,10 +1,10 @@
 -- Which verdict is right for words and an input or a number.
 use Rattle.std.specs.Prelude.{◌≡◌, ℕ, ◌+◌, ◌≤◌, List, Option}
-use Rattle.cqs_streams.specs.Counts.{raise, Rises}
-use Rattle.cqs_streams.specs.Stream.{GivesCount}
-use Rattle.cqs_streams.specs.declared.streams.reading.TheConstants.{LONGEST_INPUT}
-use Rattle.cqs_streams.specs.declared.streams.tally.Tally.{Tally}
-use Rattle.cqs_streams.specs.Tally.{StopsWithin}
+use Rattle.cqs_cli_streams.specs.Counts.{raise, Rises}
+use Rattle.cqs_cli_streams.specs.Stream.{GivesCount}
+use Rattle.cqs_cli_streams.specs.declared.streams.reading.TheConstants.{LONGEST_INPUT}
+use Rattle.cqs_cli_streams.specs.declared.streams.tally.Tally.{Tally}
+use Rattle.cqs_cli_streams.specs.Tally.{StopsWithin}
 use Rattle.cqs_cli.specs.Input.{IsInput}
 use Rattle.cqs_cli.specs.Plans.{IsFaultLine, IsReport}
 use Rattle.cqs_cli.specs.Summaries.{IsSummary, IsSummaryOf}

@@ -1,7 +1,7 @@
 //! The judging of the words and the source: it knows no sink.
 
 ghost use Rattle.std.specs.Prelude.{◌+◌, map, string_bytes};
-ghost use Rattle.cqs_streams.specs.Stream.{GivesAtMost};
+ghost use Rattle.cqs_cli_streams.specs.Stream.{GivesAtMost};
 ghost use Rattle.cqs_cli.specs.KeptRuns.{Keeps};
 ghost use Rattle.cqs_cli.specs.Verdicts.{HasTaken, IsVerdict};
 
@@ -10,7 +10,7 @@ use crate::plans::judge_input;
 use crate::summaries::judge_number;
 use crate::verdict::Verdict;
 use crate::words::{Command, command_of};
-use cqs_streams::{LONGEST_INPUT, ReadError, Source, read_input};
+use cqs_cli_streams::{LONGEST_INPUT, ReadError, Source, read_input};
 use std::alloc::Global;
 
 /// What the words and the source come to. Everything that is to be written is made here, and so is

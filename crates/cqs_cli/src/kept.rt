@@ -1,6 +1,6 @@
 //! What a call of the program keeps for its caller.
 
-use cqs_floors::QueueFloor;
+use cqs_floor_alone::QueueFloor;
 
 /// What a call of the program keeps: nothing, or what its command worked on.
 #[derive(Drop)]

@@ -1,11 +1,14 @@
-//! The program `cqs` as a library: its commands that have no workers, over any source and sink.
+//! The commands `run` and `gen` of the program `cqs`, over any source and sink.
 //!
-//! `top_alone` judges first and tells after. `judge` reads the words and the source and knows no
-//! sink; `tell` knows the sink alone, and writes a text that was made whole before. What each
-//! status means stands on `top_alone`. `kept` is what a call leaves its caller of a run, and the
-//! floor on which a plan is run is that of `cqs_floors`. The real streams are in `standard`, the
-//! trusted edge. `Verdict`, `tell` and `read_number` are public for `cqs_top`, which has the
-//! command that needs workers.
+//! ```text
+//!  words, source --- judge ---> a verdict, with its text whole --- tell ---> sink, and a status
+//! ```
+//!
+//! `judge` reads the words and the source and knows no sink; `tell` knows the sink alone. What each
+//! status means stands on `top_alone`. `kept` is what a call leaves its caller of a run. A plan is
+//! run on the floor of `cqs_floor_alone`. The real streams are in `standard`, the trusted edge.
+//! `Verdict`, `tell` and `read_number` are public for `cqs_cli_top`, which has the command that
+//! needs workers.
 #![tactic(auto)]
 
 mod judging;
@@ -19,7 +22,7 @@ mod top_call;
 mod verdict;
 mod words;
 
-pub use cqs_floors::{CoreFloor, QueueFloor};
+pub use cqs_floor_alone::{CoreFloor, QueueFloor};
 pub use kept::Kept;
 pub use standard::{StdinSource, StdoutSink};
 pub use statuses::{DONE, NO_COMMAND, NO_MEMORY, NO_PLAN, SINK_FAILED, SOURCE_FAILED, TOO_LONG};

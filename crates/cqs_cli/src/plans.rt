@@ -3,7 +3,7 @@
 ghost use Rattle.std.specs.Prelude.{◌≡◌, IfOk, OnErr, OnOk};
 ghost use Rattle.cqs_plan.specs.LegalFloor.{IsLegalFor};
 ghost use Rattle.cqs_plan.specs.Runnable.{AreSized, IsRunnable};
-ghost use Rattle.cqs_reports.specs.Report.{report_of};
+ghost use Rattle.cqs_turns_report.specs.Report.{report_of};
 ghost use Rattle.cqs_cli.specs.KeptRuns.{KeepsRun, KeepsWith};
 ghost use Rattle.cqs_cli.specs.Plans.{floor_after};
 ghost use Rattle.cqs_cli.specs.Verdicts.{IsVerdictOn};
@@ -11,9 +11,9 @@ ghost use Rattle.cqs_cli.specs.Verdicts.{IsVerdictOn};
 use crate::kept::Kept;
 use crate::verdict::Verdict;
 use cqs_core::Memory;
-use cqs_floors::QueueFloor;
+use cqs_floor_alone::QueueFloor;
 use cqs_plan::{Plan, PlanError, fault_line};
-use cqs_reader::read_plan;
+use cqs_plan_reader::read_plan;
 use cqs_turns::{Report, run_plan};
 use std::alloc::Global;
 

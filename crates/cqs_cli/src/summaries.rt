@@ -2,7 +2,7 @@
 
 ghost use Rattle.std.specs.Prelude.{◌≡◌, ◌<◌, ◌≤◌, ◌^◌, IfOk, OnErr, OnOk};
 ghost use Rattle.cqs_plan.specs.LegalFloor.{IsLegalFor};
-ghost use Rattle.cqs_generator.specs.Generated.{plan_of_number};
+ghost use Rattle.cqs_plan_generator.specs.Generated.{plan_of_number};
 ghost use Rattle.cqs_cli.specs.KeptRuns.{KeepsFor, KeepsRun};
 ghost use Rattle.cqs_cli.specs.Plans.{floor_after};
 ghost use Rattle.cqs_cli.specs.Summaries.{asked_line, summary_text};
@@ -11,8 +11,8 @@ ghost use Rattle.cqs_cli.specs.Verdicts.{IsVerdictFor};
 use crate::kept::Kept;
 use crate::verdict::Verdict;
 use cqs_core::Memory;
-use cqs_floors::QueueFloor;
-use cqs_generator::make_plan;
+use cqs_floor_alone::QueueFloor;
+use cqs_plan_generator::make_plan;
 use cqs_turns::summarize_plan;
 use itoa::Buffer;
 use std::alloc::Global;

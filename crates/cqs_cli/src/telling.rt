@@ -5,11 +5,11 @@ ghost use Rattle.cqs_cli.specs.Tellings.{Says, Tells};
 use crate::statuses::{DONE, NO_COMMAND, NO_MEMORY, NO_PLAN, SINK_FAILED, SOURCE_FAILED, TOO_LONG};
 use crate::verdict::Verdict;
 use crate::words::USAGE;
-use cqs_streams::{Sink, write_all};
+use cqs_cli_streams::{Sink, write_all};
 
 /// Writes what a verdict has to say, and gives the status that the call ends with.
 pub fn tell<K: Sink>(sink: &mut K, verdict: &Verdict) -> u8
-    ensures { Tells K.held K.is_flushed K.faults K.tally verdict.now result sink.old sink.new }
+    ensures { Tells K.Sink verdict.now result sink.old sink.new }
 {
     match verdict {
         Verdict::NoCommand => say(sink, USAGE.as_bytes(), NO_COMMAND),
@@ -24,7 +24,7 @@ pub fn tell<K: Sink>(sink: &mut K, verdict: &Verdict) -> u8
 
 /// Writes a text after which a call ends with this status, unless the sink fails.
 fn say<K: Sink>(sink: &mut K, text: &[u8], status: u8) -> u8
-    ensures { Says K.held K.is_flushed K.faults K.tally text.now status result sink.old sink.new }
+    ensures { Says K.Sink text.now status result sink.old sink.new }
 {
     match write_all(sink, text) {
         Ok(()) => status,

@@ -7,11 +7,11 @@ ghost use Rattle.std.specs.Prelude.{◌≡◌, ◌≢◌, ◌<◌, length, IfOk,
 ghost use Rattle.std.specs.Io.{ReadsAtMost, WritesAtMost};
 ghost use Rattle.std.specs.Io.KnownBytes.{Keeps, ReadConsumes, WriteAppends};
 ghost use Rattle.std.specs.IoError.{error_kind};
-ghost use Rattle.cqs_streams.specs.Counts.{Rises};
-ghost use Rattle.cqs_streams.specs.Tally.{after_call, bytes_of};
+ghost use Rattle.cqs_cli_streams.specs.Counts.{Rises};
+ghost use Rattle.cqs_cli_streams.specs.Tally.{after_call, bytes_of};
 ghost use Rattle.cqs_cli.specs.Standard.{IsCounted};
 
-use cqs_streams::{Failed, Tally};
+use cqs_cli_streams::{Failed, Tally};
 use std::io::{self, ErrorKind, Read, Write};
 
 /// One read, made again where a signal came before it moved a byte.

@@ -1,10 +1,10 @@
 //! Standard input as a source.
 
 ghost use Rattle.std.specs.Prelude.{◌≡◌, None};
-ghost use Rattle.cqs_streams.specs.Tally.{no_calls};
+ghost use Rattle.cqs_cli_streams.specs.Tally.{no_calls};
 
 use super::counting::read_counted;
-use cqs_streams::{Failed, Source, Tally};
+use cqs_cli_streams::{Failed, Source, Tally};
 use std::io::Stdin;
 use std::marker::Model;
 

@@ -1,10 +1,10 @@
 //! Standard output as a sink.
 
 ghost use Rattle.std.specs.Prelude.{◌≡◌, None, true};
-ghost use Rattle.cqs_streams.specs.Tally.{no_calls};
+ghost use Rattle.cqs_cli_streams.specs.Tally.{no_calls};
 
 use super::counting::{flush_counted, write_counted};
-use cqs_streams::{Failed, Sink, Tally};
+use cqs_cli_streams::{Failed, Sink, Tally};
 use std::io::Stdout;
 use std::marker::Model;
 

@@ -1,0 +1,4 @@
+pub mod Inputs
+pub mod Works
+pub mod Endings
+pub mod Alone

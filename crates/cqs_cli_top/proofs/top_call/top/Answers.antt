@@ -1,0 +1,16 @@
+-- What `top_alone` says, said of all commands.
+use Rattle.std.proofs.Common.{rules}
+use Rattle.cqs_floor_shared_any.specs.AnyShares.{share_any}
+use Rattle.cqs_floor_shared_queue.specs.Ledgers.{shared_in}
+use Rattle.cqs_cli_top.proofs.Alone.{of_alone}
+use Rattle.cqs_cli_top.proofs.top_call.top.Goals as goal
+
+pub returns-in-None : goal.returns-in-None
+returns-in-None g c =
+    let call =
+    of_alone (shared_in share_any) g.S.Source g.K.Sink _ _ _ _ _ _ _ _ c.in-None.ensures c.kept_alone.ensures.is
+    c.kept_alone.ensures.nothing c.top_alone-status.ensures.call in
+    search rules
+
+pub returns-in-Some : goal.returns-in-Some
+returns-in-Some g c = c.work.ensures _ c.in-Some.ensures

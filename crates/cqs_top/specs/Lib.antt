@@ -1,6 +1,0 @@
-pub mod Words
-pub mod WorkText
-pub mod Working
-pub mod KeptWorks
-pub mod Verdicts
-pub mod Meanings

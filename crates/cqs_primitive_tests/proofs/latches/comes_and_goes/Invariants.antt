@@ -1,7 +1,0 @@
-use Rattle.cqs_rule.specs.Passes.{pass_view}
-use Rattle.cqs_latch.specs.Calls.{IsMine, IsReady}
-use Rattle.cqs_primitive_tests.proofs.latches.comes_and_goes.Given as goal
-
--- between two rounds the pass is ready
-abbrev pub invariant-loop : goal.invariant-loop
-invariant-loop l = record { belongs : IsMine l.latch l.pass; ready : IsReady (pass_view l.pass).facts }

@@ -1,7 +1,0 @@
-use Rattle.cqs_primitive_threads.specs.Rest.{IsWaiting}
-use Rattle.cqs_primitive_threads.proofs.latches.worker.look_on.Given as goal
-
-abbrev pub invariant-loop : goal.invariant-loop
-invariant-loop l = record {
-  waits : IsWaiting l.latch l.wait l.pass;
-}

@@ -1,8 +1,0 @@
-use Rattle.cqs_rule.specs.Passes.{pass_view}
-use Rattle.cqs_semaphore.specs.Calls.{IsReady}
-use Rattle.cqs_mutex.specs.Mutexes.{Belongs}
-use Rattle.cqs_primitive_threads.proofs.mutexes.add_all.Given as goal
-
--- between two rounds the pass is ready
-abbrev pub invariant-loop-round : goal.invariant-loop-round
-invariant-loop-round l = record { belongs : Belongs l.mutex l.pass; ready : IsReady (pass_view l.pass).facts }

@@ -1,8 +1,0 @@
-use Rattle.cqs_rule.specs.Passes.{pass_view}
-use Rattle.cqs_pool.specs.Calls.{IsReady}
-use Rattle.cqs_value_pool.specs.Pools.{Belongs}
-use Rattle.cqs_primitive_threads.proofs.pools.take_all.Given as goal
-
--- between two takes the pass is ready
-abbrev pub invariant-loop-taken : goal.invariant-loop-taken
-invariant-loop-taken l = record { belongs : Belongs l.pool l.pass; ready : IsReady (pass_view l.pass).facts }

@@ -1,0 +1,10 @@
+use Rattle.cqs_rule_laws.proofs.Places.{known-still}
+use Rattle.cqs_test_queue.proofs.Waiting.{left-on}
+use Rattle.cqs_test_queue.proofs.queue_calls.single_steps_of_a_resume.Goals as goal
+
+pub serve-requires-clause-place : goal.serve-requires-clause-place
+serve-requires-clause-place g c =
+    known-still _ _ c.in-At.at
+    (left-on c.find.new.pass c.leave_value.new.pass c.leave_value.result _
+    c.leave_value.ensures.made c.leave_value.ensures.missed)
+    c.in-At.ensures.at.1

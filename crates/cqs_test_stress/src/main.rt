@@ -1,0 +1,176 @@
+//! Has threads work on one semaphore, and says how often each answer came.
+//!
+//! `cqs_test_stress THREADS PERMITS ROUNDS` prints what is sure of every run. With `for SECONDS`
+//! crews work one after the other, each on a semaphore of its own, until the time is over. With a
+//! last word, `counts`, it also prints what isn't sure: how often each answer came, and the time.
+#![tactic(auto)]
+
+use cqs_rule::Config;
+use cqs_semaphore::{Acquired, Semaphore};
+use cqs_semaphore_crew::{Counts, CrewError, together};
+use std::env;
+use std::process::ExitCode;
+use std::rt::Clock;
+use std::thread::Threads;
+use std::time::Instant;
+
+const USAGE: &str =
+    "usage: cqs_test_stress THREADS PERMITS ROUNDS [for SECONDS] [counts], with at most \
+    31 threads";
+
+const BAD_COMMAND: u8 = 2;
+
+/// The most passes that a semaphore may be made for; one is left to the caller.
+const MOST_PASSES: u32 = 32;
+
+/// The most crews that work one after the other.
+const MOST_CREWS: u32 = 1 << 20;
+
+/// What the words of the command say.
+#[derive(Clone, Copy, Drop)]
+struct Command {
+    threads: u32,
+    permits: u32,
+    rounds: u32,
+    seconds: Option<u64>,
+    counts: bool,
+}
+
+fn command_of(words: &[String]) -> Option<Command> {
+    let (words, counts) = match words {
+        [words @ .., last] if last.as_str() == "counts" => (words, true),
+        _ => (words, false),
+    };
+    let (numbers, seconds) = match words {
+        [numbers @ .., before, last] if before.as_str() == "for" => {
+            (numbers, Some(last.parse().ok()?))
+        }
+        _ => (words, None),
+    };
+    let [threads, permits, rounds] = numbers else {
+        return None;
+    };
+    let threads = threads.parse().ok()?;
+    if threads >= MOST_PASSES {
+        return None;
+    }
+    Some(Command {
+        threads,
+        permits: permits.parse().ok()?,
+        rounds: rounds.parse().ok()?,
+        seconds,
+        counts,
+    })
+}
+
+/// What is sure of a crew that has worked, and how often each answer came.
+#[derive(Drop)]
+struct Worked {
+    alone: bool,
+    state: i64,
+    free: bool,
+    counts: Counts,
+}
+
+/// Has a crew work on a semaphore of its own.
+fn crew<R: Threads + Sync + AllocGlobal>(rt: &R, command: Command) -> anyhow::Result<Worked> {
+    let config = Config {
+        passes: MOST_PASSES,
+        limit: 1 << 20,
+        slots: 2 * MOST_PASSES + 2,
+    };
+    let Ok((semaphore, mut pass)) = Semaphore::new(rt.alloc(), command.permits, config) else {
+        anyhow::bail!("there is no such semaphore, or no memory for it");
+    };
+    let made = together(
+        rt,
+        rt.alloc(),
+        &semaphore,
+        &mut pass,
+        command.threads,
+        command.rounds,
+    );
+    let counts = match made {
+        Ok(counts) => counts,
+        Err(CrewError::Memory) => anyhow::bail!("no memory for the passes"),
+        Err(CrewError::Crowd) => anyhow::bail!("no further pass may be made"),
+    };
+    Ok(Worked {
+        alone: semaphore.sole(&mut pass),
+        state: semaphore.state(&mut pass),
+        free: matches!(semaphore.acquire(&mut pass), Ok(Acquired::Now(_))),
+        counts,
+    })
+}
+
+/// Has one crew work, and prints what came of it.
+fn run<R: Threads + Sync + Clock + Print + AllocGlobal>(
+    rt: &R,
+    command: Command,
+) -> anyhow::Result<()> {
+    let start = Instant::now(rt)?;
+    let worked = crew(rt, command)?;
+    let nanoseconds = start.elapsed(rt)?.as_nanos();
+    let Command {
+        threads,
+        permits,
+        rounds,
+        ..
+    } = command;
+    println!(rt; "{threads} threads made {rounds} rounds each, on {permits} permits")?;
+    println!(rt; "one pass is left: {}", worked.alone)?;
+    println!(rt; "the state: {}", worked.state)?;
+    println!(rt; "a last acquire has a permit at once: {}", worked.free)?;
+    if command.counts {
+        println!(rt; "{}", worked.counts)?;
+        println!(rt; "nanoseconds: {nanoseconds}")?;
+    }
+    Ok(())
+}
+
+/// Has crews work one after the other until the time is over, and prints how many did, and how many
+/// of them left more than one pass, or another state than they should.
+fn run_for<R: Threads + Sync + Clock + Print + AllocGlobal>(
+    rt: &R,
+    command: Command,
+    seconds: u64,
+) -> anyhow::Result<()> {
+    let start = Instant::now(rt)?;
+    let mut counts = Counts::default();
+    let mut crews = 0u64;
+    let mut wrong = 0u64;
+    for _ in 0..MOST_CREWS {
+        if start.elapsed(rt)?.as_secs() >= seconds {
+            break;
+        }
+        let worked = crew(rt, command)?;
+        counts = counts.with(worked.counts);
+        crews = crews.saturating_add(1);
+        if !worked.alone || worked.state != i64::from(command.permits) {
+            wrong = wrong.saturating_add(1);
+        }
+    }
+    if command.counts {
+        println!(rt; "{crews} crews worked in {seconds} seconds")?;
+        println!(rt; "{counts}")?;
+    }
+    println!(rt; "crews that left another pass or another state: {wrong}")?;
+    Ok(())
+}
+
+fn main(rt: HostRuntime) -> anyhow::Result<ExitCode> {
+    let alloc = rt.alloc();
+    let mut words = Vec::new(alloc);
+    for word in env::args(&rt)?.skip(1) {
+        words.push(word)?;
+    }
+    let Some(command) = command_of(&words) else {
+        println!(rt; "{USAGE}")?;
+        return Ok(ExitCode::from(BAD_COMMAND));
+    };
+    match command.seconds {
+        Some(seconds) => run_for(&rt, command, seconds)?,
+        None => run(&rt, command)?,
+    }
+    Ok(ExitCode::SUCCESS)
+}

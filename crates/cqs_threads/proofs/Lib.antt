@@ -1,5 +1,0 @@
-pub mod Ends
-pub mod Telling
-pub mod Meeting
-pub mod Waits
-pub mod Calls

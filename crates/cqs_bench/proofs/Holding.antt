@@ -1,7 +1,7 @@
 -- A pass to which a permit came holds one.
 use Rattle.std.proofs.Common.{ℕ, ◌+◌, ◌<◌, Option, Some, None, Ok, inl, inr, arith}
 use Rattle.cqs_core.specs.declared.entries.Entry.{Entry}
-use Rattle.cqs_views.specs.declared.view.View.{View}
+use Rattle.cqs_rule_laws.specs.declared.view.View.{View}
 use Rattle.cqs_semaphore.specs.declared.answers.Permit.{Permit}
 use Rattle.cqs_semaphore.specs.Answers.{Takes}
 use Rattle.cqs_waiter.specs.Permits.{PermitArrives}

@@ -2,14 +2,14 @@
 use Rattle.std.proofs.Common.{◌≡◌, ◌⊎◌, ℕ, List, Option, sym, ap, ◌∙◌, subst, ⊎_elim}
 use Rattle.cqs_core.specs.declared.doings.Doing.TheVariants as doing
 use Rattle.cqs_rule.specs.declared.queue.tokens.Wait.{Wait}
-use Rattle.cqs_views.specs.declared.view.Facts.{Facts}
-use Rattle.cqs_views.specs.declared.view.View.{View}
-use Rattle.cqs_views.specs.Called.{Called}
-use Rattle.cqs_views.specs.Lists.{Has}
-use Rattle.cqs_views.specs.Object.{Object, Primitive}
-use Rattle.cqs_views.specs.Saw.{Saw}
+use Rattle.cqs_rule_laws.specs.declared.view.Facts.{Facts}
+use Rattle.cqs_rule_laws.specs.declared.view.View.{View}
+use Rattle.cqs_rule_laws.specs.Called.{Called}
+use Rattle.cqs_rule_laws.specs.Lists.{Has}
+use Rattle.cqs_rule_laws.specs.Object.{Object, Primitive}
+use Rattle.cqs_rule_laws.specs.Saw.{Saw}
 use Rattle.cqs_rule.specs.Waits.{place_of, HasWait}
-use Rattle.cqs_views.proofs.Calls.{called-by}
+use Rattle.cqs_rule_laws.proofs.Calls.{called-by}
 use Rattle.cqs_rule.proofs.Places.{knows-called}
 use Rattle.cqs_resume.specs.declared.resumed.Resumed.{Resumed}
 use Rattle.cqs_resume.specs.declared.resumed.Resumed.TheVariants.{Served, Left, Refused, Under}

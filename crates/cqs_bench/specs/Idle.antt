@@ -1,5 +1,5 @@
 -- What a pass that makes rounds is at between two of them.
-use Rattle.std.specs.Prelude.{ℕ, ◌<◌}
+use Rattle.std.specs.Prelude.{ℕ}
 use Rattle.cqs_barrier.specs.declared.answers.PartyWait.{PartyWait}
 use Rattle.cqs_barrier.specs.declared.barrier.Barrier.{Barrier}
 use Rattle.cqs_barrier.specs.declared.client.BarrierClient.{BarrierClient}
@@ -17,28 +17,16 @@ use Rattle.cqs_pool.specs.declared.client.PoolClient.{PoolClient}
 use Rattle.cqs_pool.specs.Answers.{IsInHand}
 use Rattle.cqs_pool.specs.Calls as pool
 use Rattle.cqs_pool_object.specs.declared.entries.PoolEntry.{PoolEntry}
-use Rattle.cqs_views.specs.declared.client.ClientWords.{Ghosts}
+use Rattle.cqs_rule_laws.specs.declared.client.ClientWords.{Ghosts}
 use Rattle.cqs_rule.specs.declared.queue.Pass.{Pass}
 use Rattle.cqs_rule.specs.declared.queue.tokens.Wait.{Wait}
 use Rattle.cqs_semaphore_client.specs.declared.semaphore.SemClient.{SemClient}
-use Rattle.cqs_views.specs.declared.carries.Kept.{Kept}
+use Rattle.cqs_rule_laws.specs.declared.carries.Kept.{Kept}
 use Rattle.cqs_rule.specs.Passes.{pass_view}
 use Rattle.cqs_rule.specs.Waits.{HasWait}
-use Rattle.cqs_semaphore.specs.declared.semaphore.Semaphore.{Semaphore}
-use Rattle.cqs_semaphore.specs.Calls.{IsReady, IsMine}
-use Rattle.cqs_value_pool.specs.declared.opening.ValuePool.{ValuePool}
-use Rattle.cqs_value_pool.specs.Pools.{Belongs}
-
-module _ {T : Type 0} {g : Ghosts (SemClient T) T Entry} where
-  -- it is one of the semaphore, and owes nothing
-  pub record IsIdle (s : Semaphore T) (p : Pass (SemClient T) T Entry g) : Type 0 where
-    pub belongs : IsMine s p
-    pub ready : IsReady (pass_view p).facts
-
-  -- it also holds a permit
-  pub record IsHolder (s : Semaphore T) (p : Pass (SemClient T) T Entry g) : Type 0 where
-    pub idle : IsIdle s p
-    pub holds : 0 < (pass_view p).facts.has.held
+use Rattle.cqs_rule_laws.specs.CallRule.{IsReady}
+use Rattle.cqs_pool_values.specs.declared.opening.ValuePool.{ValuePool}
+use Rattle.cqs_pool_values.specs.Pools.{Belongs}
 
 module _ {T : Type 0} {g : Ghosts (SemClient (Kept T)) (Kept T) Entry} where
   -- it is one of the mutex, and owes nothing
@@ -52,7 +40,7 @@ module _ {T : Type 0} {g : Ghosts (PoolClient (Kept T)) (Kept T) PoolEntry} wher
   pub record IsIdleAtPool (m : ValuePool T) (p : Pass (PoolClient (Kept T)) (Kept T) PoolEntry g)
       : Type 0 where
     pub belongs : Belongs m p
-    pub ready : pool.IsReady (pass_view p).facts
+    pub ready : IsReady (pass_view p).facts
 
   -- it also has this element in hand
   pub record HasInHand (m : ValuePool T) (e : ℕ)
@@ -64,7 +52,7 @@ module _ {T : Type 0} {g : Ghosts (LatchClient T) T LatchEntry} where
   -- it is one of the latch, and owes nothing
   pub record IsIdleAtLatch (l : Latch T) (p : Pass (LatchClient T) T LatchEntry g) : Type 0 where
     pub belongs : latch.IsMine l p
-    pub ready : latch.IsReady (pass_view p).facts
+    pub ready : IsReady (pass_view p).facts
 
   -- it also has this wait
   pub record WaitsAtLatch (l : Latch T) (wait : Wait) (p : Pass (LatchClient T) T LatchEntry g)
@@ -77,7 +65,7 @@ module _ {T : Type 0} {g : Ghosts (BarrierClient T) T BarrierEntry} where
   pub record IsIdleAtBarrier (b : Barrier T) (p : Pass (BarrierClient T) T BarrierEntry g)
       : Type 0 where
     pub belongs : barrier.IsMine b p
-    pub ready : barrier.IsReady (pass_view p).facts
+    pub ready : IsReady (pass_view p).facts
 
   -- it also has this wait
   pub record WaitsAtBarrier (b : Barrier T) (wait : PartyWait)

@@ -18,9 +18,9 @@ ghost use Rattle.cqs_plan.specs.Floor.{opening_floor};
 ghost use Rattle.cqs_plan.specs.Runnable.{AreSized, IsRunnable};
 
 use cqs_cli::{CoreFloor, QueueFloor};
-use cqs_generator::make_plan;
 use cqs_plan::{Floor, Plan};
-use cqs_reader::read_plan;
+use cqs_plan_generator::make_plan;
+use cqs_plan_reader::read_plan;
 use cqs_rule::{CancelMode, Config, Queue};
 use cqs_semaphore_client::SemClient;
 use cqs_turns::{Report, run_plan, summarize_plan};

@@ -7,10 +7,10 @@ ghost use Rattle.std.specs.Prelude.{◌≤◌};
 ghost use Rattle.cqs_plan.specs.Runnable.{AreSized, IsRunnable};
 
 use crate::words::usage;
+use cqs_cli_top::work_text;
+use cqs_floor_shared_queue::shared_floors;
 use cqs_plan::Plan;
-use cqs_reader::read_plan;
-use cqs_shared_floors::shared_floors;
-use cqs_top::work_text;
+use cqs_plan_reader::read_plan;
 use cqs_work::{OpenGate, work_plan};
 use std::alloc::Global;
 use std::env::Args;

@@ -6,10 +6,11 @@ use crate::rows::{End, Job, Level, Mark, Resource, Rows, Span, State, Told};
 use std::alloc::Global;
 use std::io::Write;
 
-/// Pixels of the whole picture, of the names at its left, and of the turns beside them.
-const WIDTH: u64 = 960;
+/// Pixels of the whole picture, of the names at its left, where the longest that a plan may have is
+/// seen whole, and of the turns beside them.
+const WIDTH: u64 = 1050;
 
-const NAMES: u64 = 170;
+const NAMES: u64 = 260;
 
 const TURNS: u64 = 760;
 /// Pixels of the legend above the rows, of a job's row and of its bar, and of a resource's row.
@@ -23,13 +24,22 @@ const RESOURCE_ROW: u64 = 44;
 /// Pixels of the highest level of a resource.
 const LEVEL: u64 = 16;
 
-/// The picture, and its ground: the width and height of each.
-const PICTURE: &str = "<svg xmlns=\"http://www.w3.org/2000/svg\" width=\"@\" height=\"@\" \
-                       viewBox=\"0 0 @ @\">\n<rect width=\"@\" height=\"@\" fill=\"#ffffff\"/>\n";
+/// Pixels of a screen: a higher picture has the turns above its rows, too.
+const SCREEN: u64 = 600;
 
-/// What stands before the rows: the patterns, by which the colours are told apart, too.
+/// The picture, its title, and its ground: the width and height, how many jobs and turns there are,
+/// and the width and height again.
+const PICTURE: &str = "<svg xmlns=\"http://www.w3.org/2000/svg\" role=\"img\" width=\"@\" \
+                       height=\"@\" viewBox=\"0 0 @ @\">\n<title>Report of a plan: jobs @, turns \
+                       @</title>\n<rect class=\"ground\" width=\"@\" height=\"@\"/>\n";
+
+/// What stands before the rows: the colours of a light and of a dark page, the patterns, by which
+/// the colours are told apart, too, and the legend.
 const HEAD: &str =
-    r##"<style>text{font:12px sans-serif;fill:#1e293b}.small{font-size:10px;fill:#475569}</style>
+    r##"<style>text{font:12px sans-serif;fill:#1e293b}.small{font-size:10px;fill:#475569}
+.name{font-family:monospace}.ground{fill:#ffffff}.line{stroke:#334155;fill:none}
+@media (prefers-color-scheme:dark){text{fill:#e2e8f0}.small{fill:#cbd5e1}
+.ground{fill:#0f172a}.line{stroke:#cbd5e1}}</style>
 <defs>
 <pattern id="waiting" width="6" height="6" patternUnits="userSpaceOnUse"
 patternTransform="rotate(45)"><rect width="6" height="6" fill="#fde68a"/>
@@ -38,6 +48,7 @@ patternTransform="rotate(45)"><rect width="6" height="6" fill="#fde68a"/>
 <rect width="5" height="5" fill="#2563eb"/><circle cx="2.5" cy="2.5" r="1" fill="#dbeafe"/>
 </pattern>
 </defs>
+<g transform="translate(90 0)">
 <rect x="170" y="14" width="26" height="14" fill="#cbd5e1"/><text x="202" y="25">works</text>
 <rect x="250" y="14" width="26" height="14" fill="url(#waiting)"/><text x="282" y="25">waits</text>
 <rect x="330" y="14" width="26" height="14" fill="url(#holding)"/><text x="362" y="25">holds</text>
@@ -45,7 +56,7 @@ patternTransform="rotate(45)"><rect width="6" height="6" fill="#fde68a"/>
 <path d="M485 16l10 10m0-10l-10 10" stroke="#b91c1c" stroke-width="2.5"/>
 <text x="502" y="25">gave up</text>
 <path d="M571 27l6-11l6 11z" fill="#7c3aed"/><text x="590" y="25">late</text>
-<path d="M632 15l6 6l-6 6" fill="none" stroke="#334155" stroke-width="2.5"/>
+<path class="line" d="M632 15l6 6l-6 6" stroke-width="2.5"/>
 <text x="646" y="25">not ended</text>
 "##;
 
@@ -54,6 +65,9 @@ const PASSED_HEAD: &str = r##"<path d="M740 17l4 4l-4 4l-4-4z" fill="#0f766e" st
 <text x="750" y="25">opens, or is the last</text>
 <path d="M882 14V28" stroke="#0f766e" stroke-width="3"/><text x="888" y="25">counts</text>
 "##;
+
+/// What ends the legend.
+const HEAD_END: &str = "</g>\n";
 
 /// How many pixels from the left edge a turn begins.
 fn place_of(turn: u64, turns: u64) -> u64 {
@@ -113,8 +127,8 @@ const GAVE_UP: &str = "<path d=\"M@ @l10 10m0-10l-10 10\" stroke=\"#b91c1c\" \
 const LATE: &str = "<path d=\"M@ @l6-11l6 11z\" fill=\"#7c3aed\"><title>late in turn @</title>\
                     </path>\n";
 
-const NOT_ENDED: &str = "<path d=\"M@ @l6 6l-6 6\" fill=\"none\" stroke=\"#334155\" \
-                         stroke-width=\"2.5\"><title>not ended</title></path>\n";
+const NOT_ENDED: &str = "<path class=\"line\" d=\"M@ @l6 6l-6 6\" stroke-width=\"2.5\"><title>not \
+                         ended</title></path>\n";
 
 /// The mark at the end of a job's bar.
 fn draw_end<W: Write>(out: &mut W, job: &Job, turns: u64, top: u64) -> anyhow::Result<()> {
@@ -211,12 +225,12 @@ fn draw_level<W: Write>(
 }
 
 /// The line in the middle of a resource's row, and the most that were held, or waited.
-const MIDDLE: &str = "<path d=\"M@ @H@\" stroke=\"#334155\"/>\n\
+const MIDDLE: &str = "<path class=\"line\" d=\"M@ @H@\"/>\n\
                       <text class=\"small\" x=\"@\" y=\"@\" text-anchor=\"end\">at most @ held, \
                       @ in line</text>\n";
 
 /// The same of a latch or a barrier, of which nothing is held.
-const PASSED_MIDDLE: &str = "<path d=\"M@ @H@\" stroke=\"#334155\"/>\n\
+const PASSED_MIDDLE: &str = "<path class=\"line\" d=\"M@ @H@\"/>\n\
                              <text class=\"small\" x=\"@\" y=\"@\" text-anchor=\"end\">at most \
                              @ in line</text>\n";
 
@@ -255,9 +269,12 @@ fn draw_resource<W: Write>(
     draw_marks(out, resource.marks.as_slice(), turns, middle)
 }
 
-/// The mark of a turn: a line from its top to its bottom, and the turn below it.
-const MARK: &str = "<path d=\"M@ @V@\" stroke=\"#334155\"/><text class=\"small\" x=\"@\" y=\"@\" \
+/// The mark of a turn: a line from its top to its bottom, and the turn below or above it.
+const MARK: &str = "<path class=\"line\" d=\"M@ @V@\"/><text class=\"small\" x=\"@\" y=\"@\" \
                     text-anchor=\"middle\">@</text>\n";
+
+/// What the marks are, at their left.
+const TURN: &str = "<text class=\"small\" x=\"@\" y=\"@\" text-anchor=\"end\">turn</text>\n";
 
 /// The most marks of turns, but for that of turn 0.
 const MARKS: u64 = 11;
@@ -278,11 +295,11 @@ fn step_of(turns: u64) -> u64 {
     u64::MAX
 }
 
-/// The turns, as marks below the rows.
-fn draw_turns<W: Write>(out: &mut W, turns: u64, top: u64) -> anyhow::Result<()> {
+/// The turns, as marks from this height on, with their numbers at another one.
+fn draw_turns<W: Write>(out: &mut W, turns: u64, top: u64, text: u64) -> anyhow::Result<()> {
     let step = step_of(turns);
     let line = top.saturating_add(6);
-    let text = top.saturating_add(18);
+    write_filled(out, TURN, &[NAMES.saturating_sub(10), text])?;
     for mark in 0..=MARKS {
         let turn = mark.saturating_mul(step);
         if turn <= turns {
@@ -299,7 +316,7 @@ fn draw_name<W: Write>(out: &mut W, alloc: Global, name: &str, top: u64) -> anyh
     let bottom = top.saturating_add(12);
     write_filled(
         out,
-        "<text x=\"@\" y=\"@\" text-anchor=\"end\">",
+        "<text class=\"name\" x=\"@\" y=\"@\" text-anchor=\"end\">",
         &[right, bottom],
     )?;
     out.write_all(escape(alloc, name)?.as_bytes())?;
@@ -361,7 +378,11 @@ pub fn draw<W: Write>(out: &mut W, alloc: Global, rows: &Rows) -> anyhow::Result
     let resources = LEGEND.saturating_add(rows_of(rows.jobs.len(), JOB_ROW));
     let bottom = resources.saturating_add(rows_of(rows.resources.len(), RESOURCE_ROW));
     let height = bottom.saturating_add(30);
-    write_filled(out, PICTURE, &[WIDTH, height, WIDTH, height, WIDTH, height])?;
+    let jobs = rows.jobs.len() as u64;
+    let numbers = [
+        WIDTH, height, WIDTH, height, jobs, rows.turns, WIDTH, height,
+    ];
+    write_filled(out, PICTURE, &numbers)?;
     out.write_all(HEAD.as_bytes())?;
     if rows
         .resources
@@ -370,9 +391,14 @@ pub fn draw<W: Write>(out: &mut W, alloc: Global, rows: &Rows) -> anyhow::Result
     {
         out.write_all(PASSED_HEAD.as_bytes())?;
     }
+    out.write_all(HEAD_END.as_bytes())?;
+    if bottom > SCREEN {
+        let above = LEGEND.saturating_sub(12);
+        draw_turns(out, rows.turns, above, above.saturating_sub(4))?;
+    }
     draw_jobs(out, alloc, rows)?;
     draw_resources(out, alloc, rows, resources)?;
-    draw_turns(out, rows.turns, bottom)?;
+    draw_turns(out, rows.turns, bottom, bottom.saturating_add(18))?;
     out.write_all(b"</svg>\n")?;
     Ok(())
 }

@@ -3,7 +3,7 @@
 ghost use Rattle.std.specs.Prelude.{All, IfOk, IfSome, IsTrue};
 ghost use Rattle.cqs_rule.specs.Passes.{pass_view};
 ghost use Rattle.cqs_rule.specs.Waits.{HasWait};
-ghost use Rattle.cqs_bench.specs.Idle.{IsIdle, IsHolder};
+ghost use Rattle.cqs_semaphore.specs.Callers.{IsIdle, IsHolder};
 
 use crate::primitives::rows::nanoseconds_since;
 use crate::primitives::waiting::{Waiting, pause, work};

@@ -4,14 +4,14 @@
 ghost use Rattle.std.specs.Prelude.{All, IfOk, IfSome, IsTrue};
 ghost use Rattle.cqs_rule.specs.Passes.{pass_view};
 ghost use Rattle.cqs_rule.specs.Waits.{HasWait};
-ghost use Rattle.cqs_value_pool.specs.Items.{number_of};
+ghost use Rattle.cqs_pool_values.specs.Items.{number_of};
 ghost use Rattle.cqs_bench.specs.Idle.{IsIdleAtPool, HasInHand};
 
 use crate::primitives::rows::nanoseconds_since;
 use crate::primitives::waiting::{Waiting, pause, work};
 use cqs_pool::Placed;
+use cqs_pool_values::{Item, ItemPolled, ItemTaking, ValuePass, ValuePool};
 use cqs_rule::{Config, Wait};
-use cqs_value_pool::{Item, ItemPolled, ItemTaking, ValuePass, ValuePool};
 use cqs_waiter::take_wait;
 use std::alloc::Global;
 use std::rt::Clock;

@@ -1,7 +1,7 @@
 //! Rounds of calls of a semaphore, with one pass. Each answers whether it went as it should.
 
 ghost use Rattle.std.specs.Prelude.{◌≡◌, false, IfSome, IsTrue};
-ghost use Rattle.cqs_bench.specs.Idle.{IsIdle, IsHolder};
+ghost use Rattle.cqs_semaphore.specs.Callers.{IsIdle, IsHolder};
 
 use cqs_rule::{Carries, Wait};
 use cqs_semaphore::{Acquired, CancelAnswer, Permit, Polled, Released, SemPass, Semaphore};

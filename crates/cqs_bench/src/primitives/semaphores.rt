@@ -1,6 +1,6 @@
 //! Rounds of a semaphore of one permit, with one pass, as they are timed.
 
-ghost use Rattle.cqs_bench.specs.Idle.{IsIdle};
+ghost use Rattle.cqs_semaphore.specs.Callers.{IsIdle};
 
 use crate::primitives::rounds::{free_rounds, leave_rounds, line_up, served_rounds, stand};
 use crate::primitives::rows::nanoseconds_since;

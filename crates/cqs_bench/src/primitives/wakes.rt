@@ -2,7 +2,7 @@
 //! on a semaphore whose callers may sleep and on one whose callers never do.
 
 ghost use Rattle.std.specs.Prelude.{◌≡◌, false};
-ghost use Rattle.cqs_bench.specs.Idle.{IsIdle};
+ghost use Rattle.cqs_semaphore.specs.Callers.{IsIdle};
 
 use crate::primitives::rounds::served_rounds;
 use crate::primitives::rows::nanoseconds_since;

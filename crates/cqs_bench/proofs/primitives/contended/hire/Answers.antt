@@ -1,6 +1,6 @@
 use Rattle.std.proofs.Common.{All, subst, sym}
 use Rattle.std.proofs.lemmas.List.Elements.{All-push}
-use Rattle.cqs_bench.specs.Idle.{IsIdle}
+use Rattle.cqs_semaphore.specs.Callers.{IsIdle}
 use Rattle.cqs_bench.proofs.primitives.contended.hire.Goals as goal
 
 -- one more, which is idle too

@@ -1,5 +1,5 @@
 use Rattle.std.proofs.Common.{All}
-use Rattle.cqs_bench.specs.Idle.{IsIdle}
+use Rattle.cqs_semaphore.specs.Callers.{IsIdle}
 use Rattle.cqs_bench.proofs.primitives.contended.hire.Given as goal
 
 -- the passes that were made so far are idle

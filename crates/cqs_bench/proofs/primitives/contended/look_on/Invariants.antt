@@ -1,6 +1,6 @@
 use Rattle.cqs_rule.specs.Passes.{pass_view}
 use Rattle.cqs_rule.specs.Waits.{HasWait}
-use Rattle.cqs_bench.specs.Idle.{IsIdle}
+use Rattle.cqs_semaphore.specs.Callers.{IsIdle}
 use Rattle.cqs_bench.proofs.primitives.contended.look_on.Given as goal
 
 -- between two looks the wait goes on

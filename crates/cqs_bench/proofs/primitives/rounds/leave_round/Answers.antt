@@ -3,7 +3,7 @@ use Rattle.cqs_rule.specs.Passes.{pass_view}
 use Rattle.cqs_rule.specs.Waits.{place_of}
 use Rattle.cqs_semaphore.specs.declared.answers.CancelAnswer.TheVariants.{Cancelled}
 use Rattle.cqs_semaphore.specs.Steps.{HasCancelled}
-use Rattle.cqs_threads.proofs.Ends.{left-done}
+use Rattle.cqs_semaphore_crew.proofs.Ends.{left-done}
 use Rattle.cqs_bench.proofs.primitives.rounds.leave_round.Goals as goal
 
 -- nothing is owed

@@ -1,4 +1,4 @@
-use Rattle.cqs_bench.specs.Idle.{IsIdle}
+use Rattle.cqs_semaphore.specs.Callers.{IsIdle}
 use Rattle.cqs_bench.proofs.primitives.rounds.leave_rounds.Given as goal
 
 -- between two rounds the pass is idle

@@ -1,10 +1,11 @@
 use Rattle.std.proofs.Common.{◌∙◌, ap, sym, subst, Ok}
 use Rattle.std.proofs.lemmas.Result.{IfOk-at_ok}
-use Rattle.cqs_views.specs.Lists.{Has}
+use Rattle.cqs_rule_laws.specs.Lists.{Has}
 use Rattle.cqs_rule.specs.Passes.{pass_view}
 use Rattle.cqs_rule.specs.Waits.{place_of}
 use Rattle.cqs_semaphore.specs.Answers.{Acquires, Releases}
-use Rattle.cqs_semaphore.proofs.Courses.{wait-kept}
+use Rattle.cqs_rule.proofs.Places.{wait-kept}
+use Rattle.cqs_semaphore_client.specs.Semaphore.{semaphore_object}
 use Rattle.cqs_bench.proofs.primitives.rounds.served_round.Goals as goal
 
 -- the release closes no wait
@@ -17,5 +18,5 @@ poll-requires-clause-has g c κs lives =
     let sent = c.in-Ok-Sent.is ∙ ap Ok c.in-Ok-Sent.field-0-is in
     let acquired = IfOk-at_ok (λ a. Acquires v a u) later c.acquire.ensures.acquired in
     let released = IfOk-at_ok (λ r. Releases u r w) sent c.release.ensures.released in
-    wait-kept u w _ _ c.in-Ok-Later.wait c.release.ensures.called
+    wait-kept semaphore_object u w _ _ c.in-Ok-Later.wait c.release.ensures.called.called
     (subst (Has (place_of c.in-Ok-Later.wait).index) (sym released.1.1.waits_are) acquired.2.open_yet) acquired.2

@@ -1,4 +1,4 @@
-use Rattle.cqs_bench.specs.Idle.{IsHolder}
+use Rattle.cqs_semaphore.specs.Callers.{IsHolder}
 use Rattle.cqs_bench.proofs.primitives.rounds.served_rounds.Given as goal
 
 -- between two rounds the pass is idle, and has the permit

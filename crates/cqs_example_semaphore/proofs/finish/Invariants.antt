@@ -1,7 +1,7 @@
 use Rattle.std.proofs.Common.{◌-◌, ◌^◌}
 use Rattle.cqs_rule.specs.Owed.{under_reached}
-use Rattle.cqs_threads.specs.Workers.{held_by, IsOwing}
-use Rattle.cqs_semaphore_example.proofs.finish.Given as goal
+use Rattle.cqs_semaphore.specs.Callers.{held_by, IsOwing}
+use Rattle.cqs_example_semaphore.proofs.finish.Given as goal
 
 -- between two calls the permit is still on its way
 abbrev pub invariant-arrive : goal.invariant-arrive

@@ -1,11 +1,11 @@
 use Rattle.std.proofs.Common.{refl, ap, ◌∙◌, subst, None, Some}
-use Rattle.cqs_views.specs.Lists.{without}
+use Rattle.cqs_rule_laws.specs.Lists.{without}
 use Rattle.cqs_rule.specs.Passes.{pass_view}
 use Rattle.cqs_rule.specs.Waits.{place_of}
 use Rattle.cqs_semaphore.specs.declared.answers.CancelAnswer.TheVariants.{Cancelled}
 use Rattle.cqs_semaphore.specs.Steps.{HasCancelled}
-use Rattle.cqs_threads.proofs.Ends.{without-one, left-done, left-owing}
-use Rattle.cqs_semaphore_example.proofs.give_up.Goals as goal
+use Rattle.cqs_semaphore_crew.proofs.Ends.{without-one, left-done, left-owing}
+use Rattle.cqs_example_semaphore.proofs.give_up.Goals as goal
 
 -- a permit was left to the wait, and is on its way
 pub finish-requires : goal.finish-requires

@@ -1,10 +1,14 @@
-//! Two threads and a semaphore of one permit: the host has the permit, and the guest waits for it
-//! and gives up.
+//! An example to be read first. One caller takes a permit and gives it back (`alone`). Then two
+//! threads share a semaphore of one permit: the host has the permit, and the guest waits for it and
+//! gives up.
 #![tactic(auto)]
 
-ghost use Rattle.std.specs.Prelude.{◌-◌, ◌<◌};
-ghost use Rattle.cqs_threads.specs.Workers.{held_by, IsAtRest, IsWaiting, IsOwing, HasEnded};
+mod alone;
 
+ghost use Rattle.std.specs.Prelude.{◌-◌, ◌<◌};
+ghost use Rattle.cqs_semaphore.specs.Callers.{held_by, IsAtRest, IsWaiting, IsOwing, HasEnded};
+
+use alone::take_one;
 use cqs_rule::{Config, Under, Wait};
 use cqs_semaphore::{Acquired, CancelAnswer, Permit, Polled, Released, SemPass, Semaphore};
 use std::fmt;
@@ -128,6 +132,10 @@ fn meanwhile<R: Threads>(rt: &R, semaphore: &Semaphore, guest: SemPass) -> (SemP
 }
 
 fn main(rt: HostRuntime) -> anyhow::Result<()> {
+    if take_one(rt.alloc()).is_err() {
+        anyhow::bail!("no memory for a semaphore of three");
+    }
+    println!(rt; "one caller took a permit and gave it back")?;
     let Ok((semaphore, mut host)) = Semaphore::new(rt.alloc(), 1, CONFIG) else {
         anyhow::bail!("no memory for the semaphore");
     };

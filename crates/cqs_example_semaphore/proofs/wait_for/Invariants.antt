@@ -1,5 +1,5 @@
-use Rattle.cqs_threads.specs.Workers.{held_by, IsWaiting}
-use Rattle.cqs_semaphore_example.proofs.wait_for.Given as goal
+use Rattle.cqs_semaphore.specs.Callers.{held_by, IsWaiting}
+use Rattle.cqs_example_semaphore.proofs.wait_for.Given as goal
 
 -- between two looks the wait goes on
 abbrev pub invariant-loop : goal.invariant-loop

@@ -4,6 +4,7 @@
  * Each primitive has passes. A pass is what one caller works with: it holds what it was given, and
  * has waits. Passes are named by numbers below `passes`, and a wait by the number that its call
  * answered. Waiting is the caller's: poll the wait in a loop, after a sleep, or from an executor.
+ * Calls that sleep, with a deadline or without, are in cqs_wait.h.
  *
  *     struct cqs_semaphore *s;
  *     if (cqs_semaphore_new(3, 2, 100000, 8, &s) != CQS_NEW) return;
@@ -33,7 +34,7 @@
  * Proved of the library behind this header: its three exports are safe and end, where the pointer
  * is good; at null `cqs_call` answers so, and else what the call by number answered; and each call
  * by number, `split` and `meet` too, is refused for its cause, or is the primitive's own, with what
- * the primitive answered (crates/cqs_c, crates/cqs_by_number, crates/cqs_semaphore, crates/cqs_pool,
+ * the primitive answered (crates/cqs_c, crates/cqs_c_numbers, crates/cqs_semaphore, crates/cqs_pool,
  * crates/cqs_latch, crates/cqs_barrier). What `new` has made, what two calls have to do with one
  * another, and so the cause of CQS_NO_PASS and CQS_IN_USE, is tested. This file, and that it fits
  * the exports, is written by hand and tested. */
@@ -61,8 +62,6 @@ enum {
     CQS_OWES = 4,           /* the pass owes a resumption: finish first */
     CQS_OWES_NOTHING = 5,   /* finish: the pass owes nothing */
     CQS_NO_PERMIT = 6,      /* release, unlock: the pass holds none, or hasn't the mutex */
-    CQS_NO_PARTY = 6,       /* arrive: the pass holds no party; split: or fewer than it
-                               is to give */
     CQS_NO_WAIT = 7,        /* poll, cancel: the pass has no wait of this number */
     CQS_FULL = 8,           /* the pass has as many waits as there is room for */
     CQS_WORN = 9,           /* as many waits were drawn as `limit` allows */
@@ -107,8 +106,24 @@ enum {
                                who waited was resumed */
     CQS_LAST_OWING = 40,    /* the same, and some are still to be resumed: finish */
     CQS_ALREADY = 41,       /* count_down: the count was used up before */
-    CQS_FINISHED = 42       /* finish: all that was owed is done */
+    CQS_FINISHED = 42,      /* finish: all that was owed is done */
+    /* Refused; nothing has changed. The export says CQS_NO_PERMIT. */
+    CQS_NO_PARTY = 43       /* arrive: the pass holds no party; split of a barrier: or fewer than
+                               it is to give */
 };
+
+/* The name of an answer, in small letters: "now" of CQS_NOW. */
+static inline const char *cqs_answer_name(uint32_t answer) {
+    static const char *const names[] = {
+        "new", "null", "no pass", "in use", "owes", "owes nothing", "no permit", "no wait",
+        "full", "worn", "crowd", "memory", "busy", "bad config", "no call", "no element", "now",
+        "later", "got", "none free", "contended", "granted", "pending", "cancelled",
+        "cancelled owing", "too late", "freed", "sent", "left", "void", "under", "state", "sole",
+        "made", "met", "took", "passed", "through", "counted", "last", "last owing", "already",
+        "finished", "no party"
+    };
+    return answer < sizeof names / sizeof names[0] ? names[answer] : "no answer";
+}
 
 /* The exports, by which the functions below are written. `size` is how many permits a semaphore
  * has, how many elements a pool, how often a latch is to be counted down, or how many parties a
@@ -420,8 +435,13 @@ static inline uint32_t cqs_barrier_new(uint32_t parties, uint32_t passes, uint64
 }
 static inline void cqs_barrier_drop(struct cqs_barrier *b) { cqs_drop(b); }
 
+/* Of a barrier the export says CQS_NO_PERMIT where there is no party. */
+static inline struct cqs_answer cqs_of_parties(struct cqs_answer a) {
+    if (a.answer == CQS_NO_PERMIT) a.answer = CQS_NO_PARTY;
+    return a;
+}
 static inline struct cqs_answer cqs_barrier_arrive(const struct cqs_barrier *b, uint32_t pass) {
-    return cqs_call(b, CQS_DO_ENTER, pass, 0);
+    return cqs_of_parties(cqs_call(b, CQS_DO_ENTER, pass, 0));
 }
 static inline struct cqs_answer cqs_barrier_poll(const struct cqs_barrier *b, uint32_t pass,
                                                  uint64_t wait) {
@@ -440,7 +460,7 @@ static inline struct cqs_answer cqs_barrier_sole(const struct cqs_barrier *b, ui
 /* parties: how many the new pass gets */
 static inline struct cqs_answer cqs_barrier_split(const struct cqs_barrier *b, uint32_t pass,
                                                   uint32_t parties) {
-    return cqs_call(b, CQS_DO_SPLIT, pass, parties);
+    return cqs_of_parties(cqs_call(b, CQS_DO_SPLIT, pass, parties));
 }
 static inline struct cqs_answer cqs_barrier_meet(const struct cqs_barrier *b, uint32_t pass,
                                                  uint32_t given) {

@@ -1,27 +1,10 @@
-/* Two jobs, one permit: one has it, one waits for it and gives up, and one waits and gets it.
- *
- *     (cd crates/cqs_c && rt lib)
- *     cc -Ibindings/c bindings/c/two_jobs.c crates/cqs_c/out/libcqs_c.a HEAP -o two_jobs
- *
- * HEAP is the kit's liblibc_c.a, by which the library allocates. */
+/* Two jobs, one permit: one has it, one waits for it and gives up, and one waits and gets it. */
 #include "cqs.h"
 #include <inttypes.h>
 #include <stdio.h>
 
-static const char *names[] = {
-    [CQS_NULL] = "no semaphore", [CQS_NO_PASS] = "no pass", [CQS_IN_USE] = "in use",
-    [CQS_OWES] = "owes", [CQS_OWES_NOTHING] = "owes nothing", [CQS_NO_PERMIT] = "no permit",
-    [CQS_NO_WAIT] = "no wait", [CQS_FULL] = "full", [CQS_WORN] = "worn", [CQS_CROWD] = "crowd",
-    [CQS_MEMORY] = "memory", [CQS_BUSY] = "busy", [CQS_BAD_CONFIG] = "bad config",
-    [CQS_NOW] = "now", [CQS_LATER] = "later", [CQS_GOT] = "got", [CQS_NONE_FREE] = "none free",
-    [CQS_CONTENDED] = "contended", [CQS_GRANTED] = "granted", [CQS_PENDING] = "pending",
-    [CQS_CANCELLED] = "cancelled", [CQS_CANCELLED_OWING] = "cancelled, owing",
-    [CQS_TOO_LATE] = "too late", [CQS_FREED] = "freed", [CQS_SENT] = "sent", [CQS_LEFT] = "left",
-    [CQS_VOID] = "void", [CQS_UNDER] = "under", [CQS_STATE] = "state", [CQS_SOLE] = "sole",
-    [CQS_MADE] = "made", [CQS_MET] = "met"};
-
 static int64_t say(const char *what, struct cqs_answer a) {
-    printf("%s: %s", what, names[a.answer]);
+    printf("%s: %s", what, cqs_answer_name(a.answer));
     if (a.number >= 0 || a.answer == CQS_STATE) printf(" %" PRId64, a.number);
     printf("\n");
     return a.number;

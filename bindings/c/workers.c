@@ -1,12 +1,6 @@
-/* Three workers wait for the start, share two tools, and wait for one another at the end.
- *
- *     (cd crates/cqs_c && rt lib)
- *     cc -Ibindings/c bindings/c/workers.c crates/cqs_c/out/libcqs_c.a HEAP -pthread -o workers
- *
- * HEAP is the kit's liblibc_c.a, by which the library allocates. */
-#include "cqs.h"
-#include <pthread.h>
-#include <sched.h>
+/* Three workers wait for the start, share two tools, and wait for one another at the end. Who waits
+ * sleeps. */
+#include "cqs_wait.h"
 #include <stdio.h>
 
 enum { WORKERS = 3, TOOLS = 2, ROUNDS = 1000 };
@@ -14,6 +8,8 @@ enum { WORKERS = 3, TOOLS = 2, ROUNDS = 1000 };
 static struct cqs_latch *start;
 static struct cqs_pool *tools;
 static struct cqs_barrier *end;
+/* Who sleeps at each of them. */
+static struct cqs_sleepers at_start, at_tools, at_end;
 static long uses[TOOLS];
 
 /* A worker has a pass of each. */
@@ -22,40 +18,20 @@ struct worker {
     long saw;
 };
 
-/* Each of these lets others run between two looks at its wait. */
 static int wait_for_start(uint32_t pass) {
-    struct cqs_answer a = cqs_latch_wait(start, pass);
-    if (a.answer == CQS_LATER) {
-        uint64_t wait = (uint64_t)a.number;
-        while ((a = cqs_latch_poll(start, pass, wait)).answer == CQS_PENDING) sched_yield();
-    }
+    struct cqs_answer a = cqs_latch_wait_open(start, &at_start, pass);
     return a.answer == CQS_PASSED || a.answer == CQS_THROUGH;
 }
 
 static int take(uint32_t pass, uint32_t *tool) {
-    struct cqs_answer a = cqs_pool_take(tools, pass);
-    if (a.answer == CQS_LATER) {
-        uint64_t wait = (uint64_t)a.number;
-        while ((a = cqs_pool_poll(tools, pass, wait)).answer == CQS_PENDING) sched_yield();
-    }
+    struct cqs_answer a = cqs_pool_take_wait(tools, &at_tools, pass);
     *tool = (uint32_t)a.number;
     return a.answer == CQS_TOOK;
 }
 
-static void put(uint32_t pass, uint32_t tool) {
-    struct cqs_answer a = cqs_pool_put(tools, pass, tool);
-    while (a.answer == CQS_UNDER) a = cqs_pool_finish(tools, pass);
-}
-
 static int wait_for_others(uint32_t pass) {
-    struct cqs_answer a = cqs_barrier_arrive(end, pass);
-    if (a.answer == CQS_LATER) {
-        uint64_t wait = (uint64_t)a.number;
-        while ((a = cqs_barrier_poll(end, pass, wait)).answer == CQS_PENDING) sched_yield();
-        return a.answer == CQS_THROUGH;
-    }
-    while (a.answer == CQS_LAST_OWING || a.answer == CQS_UNDER) a = cqs_barrier_finish(end, pass);
-    return a.answer == CQS_LAST || a.answer == CQS_FINISHED;
+    struct cqs_answer a = cqs_barrier_arrive_wait(end, &at_end, pass);
+    return a.answer == CQS_LAST || a.answer == CQS_FINISHED || a.answer == CQS_THROUGH;
 }
 
 static void *work(void *of) {
@@ -64,7 +40,7 @@ static void *work(void *of) {
     if (!wait_for_start(worker->start)) return NULL;
     for (int round = 0; round < ROUNDS && take(worker->tools, &tool); round++) {
         uses[tool]++;
-        put(worker->tools, tool);
+        cqs_pool_put_wake(tools, &at_tools, worker->tools, tool);
     }
     if (!wait_for_others(worker->end)) return NULL;
     for (int i = 0; i < TOOLS; i++) worker->saw += uses[i];
@@ -77,6 +53,8 @@ int main(void) {
     if (cqs_latch_new(1, WORKERS + 1, WORKERS, 1, &start) != CQS_NEW) return 1;
     if (cqs_pool_new(TOOLS, WORKERS + 1, WORKERS * ROUNDS, 1, &tools) != CQS_NEW) return 1;
     if (cqs_barrier_new(WORKERS, WORKERS + 1, WORKERS, 1, &end) != CQS_NEW) return 1;
+    if (cqs_sleepers_init(&at_start) || cqs_sleepers_init(&at_tools)) return 1;
+    if (cqs_sleepers_init(&at_end)) return 1;
     for (int i = 0; i < WORKERS; i++) {
         workers[i].start = (uint32_t)cqs_latch_split(start, 0).number;
         workers[i].tools = (uint32_t)cqs_pool_split(tools, 0).number;
@@ -84,13 +62,14 @@ int main(void) {
         workers[i].saw = 0;
         if (pthread_create(&threads[i], NULL, work, &workers[i])) return 1;
     }
-    struct cqs_answer opened = cqs_latch_count_down(start, 0);
-    while (opened.answer == CQS_LAST_OWING || opened.answer == CQS_UNDER)
-        opened = cqs_latch_finish(start, 0);
+    cqs_latch_count_down_wake(start, &at_start, 0);
     for (int i = 0; i < WORKERS; i++) {
         pthread_join(threads[i], NULL);
         printf("worker %d saw %ld uses\n", i + 1, workers[i].saw);
     }
+    cqs_sleepers_destroy(&at_start);
+    cqs_sleepers_destroy(&at_tools);
+    cqs_sleepers_destroy(&at_end);
     cqs_latch_drop(start);
     cqs_pool_drop(tools);
     cqs_barrier_drop(end);

@@ -1,36 +1,30 @@
 //! Two jobs, two threads, one permit: the one works with it, the other waits for it.
 //!
-//!     (cd crates/cqs_c && rt lib)
+//!     ./build --lib PREFIX
 //!     cargo run --offline --manifest-path bindings/rust/Cargo.toml --example two_jobs
 
-use cqs::{Acquired, Cancelled, Config, Semaphore, TryError};
+use cqs::{NoneFree, Semaphore, TimeoutError};
 use std::thread;
+use std::time::Duration;
 
 fn main() -> Result<(), Box<dyn std::error::Error>> {
-    let semaphore = Semaphore::new(Config::default())?;
-    let mut one = semaphore.pass()?;
-    let mut two = semaphore.pass()?;
-
-    let permit = one.acquire_yielding()?;
-    assert_eq!(two.try_acquire().err(), Some(TryError::NoneFree));
-    match two.acquire()? {
-        Acquired::Now(_) => unreachable!("there is one permit"),
-        Acquired::Later(wait) => {
-            println!("job two waits as number {}, and gives up", wait.number());
-            assert!(matches!(wait.cancel(), Cancelled::Gone(_)));
-        }
-    }
+    let semaphore = Semaphore::new(1);
+    let permit = semaphore.acquire_blocking()?;
+    assert_eq!(semaphore.try_acquire().unwrap_err(), NoneFree);
+    let late = semaphore.acquire_timeout(Duration::from_millis(1));
+    assert_eq!(late.unwrap_err(), TimeoutError::TimedOut);
+    println!("job two waits a while, and gives up");
 
     thread::scope(|scope| {
-        let waits = scope.spawn(move || {
-            let permit = two.acquire_yielding().expect("the semaphore isn't worn");
+        let waits = scope.spawn(|| {
+            let permit = semaphore.acquire_blocking().expect("it isn't worn");
             println!("job two works");
-            permit.release();
+            drop(permit);
         });
         println!("job one works");
-        permit.release();
+        drop(permit);
         waits.join().expect("job two ends");
     });
-    println!("the state is {}", one.state());
+    println!("{} permit is free", semaphore.available_permits());
     Ok(())
 }

@@ -1,230 +1,335 @@
-//! A barrier, for one time: parties that arrive wait until all have arrived.
+//! A barrier, round after round: parties that arrive wait until all have arrived.
 
-use crate::errors::{Crowded, MakeError};
-use crate::ffi;
-use crate::shared::Shared;
-use std::error::Error;
+use crate::errors::{MakeError, TimeoutError, expect_in};
+use crate::ffi::{self, Answer};
+use crate::gate::Gate;
+use crate::primitive::Primitive;
+use crate::sleeper::deadline_after;
+use crate::wakers::lock;
 use std::fmt;
-use std::mem::ManuallyDrop;
-use std::ptr;
-use std::sync::Arc;
+use std::future::Future;
+use std::pin::Pin;
+use std::sync::{Arc, Mutex};
+use std::task::{Context, Poll};
+use std::time::{Duration, Instant};
 
-/// How a barrier is made.
+/// How a [`Barrier`] is made.
+///
+/// ```
+/// use cqs::{Barrier, BarrierConfig};
+///
+/// let barrier = Barrier::with_config(BarrierConfig { parties: 1 }).unwrap();
+/// assert!(barrier.wait_blocking().is_leader());
+/// ```
 #[derive(Clone, Copy, Debug, PartialEq, Eq)]
 pub struct BarrierConfig {
-    /// How many parties there are, from 1 to 31.
-    pub parties: u32,
-    /// How many waits may be drawn in all, from 1 to 1,048,576.
-    pub limit: u64,
+    /// How many parties there are, from 1 to 32.
+    pub parties: usize,
 }
 
 impl Default for BarrierConfig {
-    /// Two parties, and as many waits as there may be.
+    /// Two parties.
     fn default() -> BarrierConfig {
-        BarrierConfig { parties: 2, limit: 1_048_576 }
+        BarrierConfig { parties: 2 }
     }
 }
 
-/// A barrier. Clones are the same barrier.
-#[derive(Clone)]
+/// A barrier: parties that arrive wait until as many have arrived as it was made for, and then all
+/// go on, and the next round begins.
+///
+/// A party that stops waiting has not arrived.
+///
+/// # Examples
+///
+/// ```
+/// use cqs::Barrier;
+/// use std::thread;
+///
+/// let barrier = Barrier::new(3);
+/// let leaders: usize = thread::scope(|scope| {
+///     let party = || {
+///         // Work of the first round, then that of the second one.
+///         let first = barrier.wait_blocking();
+///         let second = barrier.wait_blocking();
+///         usize::from(first.is_leader()) + usize::from(second.is_leader())
+///     };
+///     let parties: Vec<_> = (0..3).map(|_| scope.spawn(party)).collect();
+///     parties.into_iter().map(|party| party.join().unwrap()).sum()
+/// });
+/// assert_eq!(leaders, 2);
+/// ```
+///
+/// ```
+/// async fn meet(barrier: &cqs::Barrier) {
+///     if barrier.wait().await.is_leader() {
+///         // It was the last one to arrive.
+///     }
+/// }
+/// # use std::future::Future;
+/// # let barrier = cqs::Barrier::new(1);
+/// # let mut cx = std::task::Context::from_waker(std::task::Waker::noop());
+/// # assert!(std::pin::pin!(meet(&barrier)).poll(&mut cx).is_ready());
+/// ```
 pub struct Barrier {
-    shared: Arc<Shared>,
+    parties: u32,
+    /// The round that parties arrive at, once one has. An arrival and a withdrawal go under this
+    /// lock, and nobody waits under it.
+    round: Mutex<Option<Round>>,
 }
 
-/// Why a party didn't arrive.
-#[derive(Clone, Copy, Debug, PartialEq, Eq)]
-pub enum ArriveError {
-    /// As many waits were drawn as the barrier was made for.
-    Worn,
-    /// The party went through before.
-    Over,
+/// A round: a barrier of the library is for one time.
+struct Round {
+    primitive: Primitive,
+    parties: u32,
+    /// The waits of those who have arrived. Parties are all alike, so one that withdraws takes any.
+    waits: Vec<u64>,
+    gate: Arc<Gate>,
+    /// So many have arrived, of which some may have withdrawn.
+    arrivals: u64,
 }
 
-impl fmt::Display for ArriveError {
-    fn fmt(&self, f: &mut fmt::Formatter<'_>) -> fmt::Result {
-        match self {
-            ArriveError::Worn => write!(f, "as many waits were drawn as the barrier was made for"),
-            ArriveError::Over => write!(f, "the party went through before"),
-        }
+/// So many waits may be drawn of one barrier of the library, where 32 are those that must be.
+const LIMIT: u64 = 1024;
+
+fn primitive(parties: u32) -> Result<Primitive, MakeError> {
+    Primitive::new(ffi::KIND_BARRIER, parties, 1, LIMIT, parties)
+}
+
+impl Round {
+    fn new(parties: u32) -> Result<Round, MakeError> {
+        let primitive = primitive(parties)?;
+        let waits = Vec::with_capacity(parties as usize);
+        Ok(Round { primitive, parties, waits, gate: Arc::default(), arrivals: 0 })
     }
-}
 
-impl Error for ArriveError {}
-
-impl Barrier {
-    /// A barrier at which none has arrived.
-    pub fn new(config: BarrierConfig) -> Result<Barrier, MakeError> {
-        let BarrierConfig { parties, limit } = config;
-        let shared = Shared::new(ffi::KIND_BARRIER, parties, parties, limit)?;
-        Ok(Barrier { shared: Arc::new(shared) })
-    }
-
-    /// One of the parties, which nobody else is: one that was given up before it went through, or a
-    /// new one.
-    pub fn party(&self) -> Result<Party, Crowded> {
-        let number = self.shared.pass_with(1)?;
-        Ok(Party { shared: self.shared.clone(), number, stage: Stage::Away })
-    }
-}
-
-/// Where a party stands.
-enum Stage {
-    /// It is to arrive.
-    Away,
-    /// It has arrived, and has this wait.
-    Waits(u64),
-    /// It is through.
-    Through,
-}
-
-/// A party. It may go to another thread. One that is dropped before it went through is given to the
-/// next who asks for a party, and has not arrived.
-pub struct Party {
-    shared: Arc<Shared>,
-    number: u32,
-    stage: Stage,
-}
-
-/// What became of an arrival.
-pub enum Arrival<'a> {
-    /// All have arrived.
-    Through,
-    /// Others are still to arrive, and the party waits.
-    Later(PartyWait<'a>),
-}
-
-/// What became of a wait that was given up.
-#[derive(Clone, Copy, Debug, PartialEq, Eq)]
-pub enum PartyEnd {
-    /// The party is to arrive again.
-    Withdrawn,
-    /// All had arrived, and the party is through.
-    TooLate,
-}
-
-impl Party {
-    /// The party arrives.
-    pub fn arrive(&mut self) -> Result<Arrival<'_>, ArriveError> {
-        // What was forgotten, by `mem::forget`, is ended first.
-        if let Stage::Waits(wait) = self.stage {
-            self.end(wait);
+    /// A party arrives, and says whether it is the last one.
+    fn enter(&mut self) -> bool {
+        let mut answer = self.primitive.call(ffi::DO_ENTER, 0, 0);
+        if answer.answer == ffi::WORN {
+            self.renew();
+            answer = self.primitive.call(ffi::DO_ENTER, 0, 0);
         }
-        if let Stage::Through = self.stage {
-            return Err(ArriveError::Over);
-        }
-        let answer = self.shared.call(ffi::DO_ENTER, self.number, 0);
         match answer.answer {
-            ffi::LAST => {
-                self.stage = Stage::Through;
-                Ok(Arrival::Through)
-            }
-            ffi::LAST_OWING => {
-                self.shared.finish_all(self.number);
-                self.stage = Stage::Through;
-                Ok(Arrival::Through)
-            }
             ffi::LATER => {
-                let number = answer.number as u64;
-                self.stage = Stage::Waits(number);
-                Ok(Arrival::Later(PartyWait { party: self, number }))
+                self.waits.push(answer.number as u64);
+                self.arrivals += 1;
+                false
             }
-            ffi::WORN => Err(ArriveError::Worn),
+            ffi::LAST => true,
+            ffi::LAST_OWING => {
+                self.finish(answer);
+                true
+            }
             other => unreachable!("an arrival was answered {other}"),
         }
     }
 
-    /// Arrives, and lets other threads run between two looks, until all have arrived.
-    pub fn arrive_yielding(&mut self) -> Result<(), ArriveError> {
-        let Arrival::Later(mut wait) = self.arrive()? else { return Ok(()) };
-        while let Err(again) = wait.poll() {
-            wait = again;
-            std::thread::yield_now();
-        }
-        Ok(())
-    }
-
-    /// Looks at its wait, and says whether all have arrived.
-    fn look(&mut self, wait: u64) -> bool {
-        match self.shared.call(ffi::DO_POLL, self.number, wait).answer {
-            ffi::THROUGH => {
-                self.stage = Stage::Through;
-                true
-            }
-            ffi::PENDING => false,
-            other => unreachable!("a poll was answered {other}"),
+    /// Parties have withdrawn so often that no wait is left to draw. So those who are here arrive
+    /// at another barrier of the library.
+    fn renew(&mut self) {
+        self.primitive = primitive(self.parties).unwrap_or_else(no_memory);
+        for wait in &mut self.waits {
+            let answer = self.primitive.call(ffi::DO_ENTER, 0, 0);
+            assert_eq!(answer.answer, ffi::LATER, "one more was to arrive");
+            *wait = answer.number as u64;
         }
     }
 
-    /// Ends its wait. Where others arrive or withdraw meanwhile, it tries again.
-    fn end(&mut self, wait: u64) -> PartyEnd {
-        let mut answer = self.shared.call(ffi::DO_CANCEL, self.number, wait).answer;
-        while answer == ffi::CONTENDED {
-            answer = self.shared.call(ffi::DO_FINISH, self.number, 0).answer;
+    /// A party withdraws.
+    fn leave(&mut self) {
+        let wait = self.waits.pop().expect("who withdraws has arrived");
+        let answer = self.finish(self.primitive.call(ffi::DO_CANCEL, 0, wait));
+        assert_eq!(answer.answer, ffi::CANCELLED, "not all have arrived");
+    }
+
+    /// Goes on where an answer says so.
+    fn finish(&self, mut answer: Answer) -> Answer {
+        while let ffi::UNDER | ffi::CONTENDED | ffi::LAST_OWING = answer.answer {
+            answer = self.primitive.call(ffi::DO_FINISH, 0, 0);
         }
-        match answer {
-            ffi::CANCELLED => {
-                self.stage = Stage::Away;
-                PartyEnd::Withdrawn
-            }
-            ffi::TOO_LATE => {
-                self.stage = Stage::Through;
-                PartyEnd::TooLate
-            }
-            other => unreachable!("a cancel was answered {other}"),
-        }
+        answer
     }
 }
 
-impl Drop for Party {
-    fn drop(&mut self) {
-        if let Stage::Waits(wait) = self.stage {
-            self.end(wait);
-        }
-        // The pass of one that is through has no party any more, and nobody needs it.
-        if let Stage::Away = self.stage {
-            self.shared.put_idle(self.number);
-        }
+#[track_caller]
+fn no_memory<T>(error: MakeError) -> T {
+    panic!("no round of a barrier: {error}")
+}
+
+/// What a party is told that went through a [`Barrier`].
+///
+/// ```
+/// let through = cqs::Barrier::new(1).wait_blocking();
+/// assert!(through.is_leader());
+/// ```
+#[derive(Clone, Copy, Debug, PartialEq, Eq)]
+pub struct BarrierWait {
+    is_leader: bool,
+}
+
+impl BarrierWait {
+    /// Whether it was the last one to arrive in its round: one of each round was.
+    #[must_use]
+    pub fn is_leader(&self) -> bool {
+        self.is_leader
     }
 }
 
-/// A wait for the others. The party withdraws when it is dropped.
-pub struct PartyWait<'a> {
-    party: &'a mut Party,
+const LEADER: BarrierWait = BarrierWait { is_leader: true };
+const FOLLOWER: BarrierWait = BarrierWait { is_leader: false };
+
+/// A party that has arrived, and waits: at which gate, and as which of the arrivals there.
+struct Arrived {
+    gate: Arc<Gate>,
     number: u64,
 }
 
-impl<'a> PartyWait<'a> {
-    /// The number of the wait.
-    pub fn number(&self) -> u64 {
-        self.number
+impl Barrier {
+    /// A barrier of so many parties.
+    ///
+    /// # Panics
+    ///
+    /// Where there are no parties or more than 32, or no memory: [`Barrier::with_config`] says so.
+    #[must_use]
+    #[track_caller]
+    pub fn new(parties: usize) -> Barrier {
+        let made = Barrier::with_config(BarrierConfig { parties });
+        made.unwrap_or_else(|error| panic!("no barrier: {error}"))
     }
 
-    /// The party, of which this wait is no more.
-    fn into_party(self) -> &'a mut Party {
-        let this = ManuallyDrop::new(self);
-        // SAFETY: `this` is not dropped, and its party is read once.
-        unsafe { ptr::read(&this.party) }
+    /// A barrier at which none has arrived.
+    pub fn with_config(config: BarrierConfig) -> Result<Barrier, MakeError> {
+        let BarrierConfig { parties } = config;
+        expect_in(1..=32, "parties", parties as u64)?;
+        let parties = parties as u32;
+        let round = Mutex::new(Some(Round::new(parties)?));
+        Ok(Barrier { parties, round })
     }
 
-    /// Looks whether all have arrived: then here is the party again.
-    pub fn poll(self) -> Result<&'a mut Party, PartyWait<'a>> {
-        if self.party.look(self.number) {
-            Ok(self.into_party())
-        } else {
-            Err(self)
+    /// Arrives, and waits until all have arrived. Dropped before, the future's party withdraws; where
+    /// all had arrived by then, it has gone through, and isn't told.
+    ///
+    /// # Panics
+    ///
+    /// Where there is no memory for another round.
+    pub async fn wait(&self) -> BarrierWait {
+        Waiting { barrier: self, stage: Stage::New }.await
+    }
+
+    /// Arrives, and waits until all have arrived. The thread sleeps.
+    ///
+    /// # Panics
+    ///
+    /// Where there is no memory for another round.
+    pub fn wait_blocking(&self) -> BarrierWait {
+        match self.wait_until(None) {
+            Ok(through) => through,
+            Err(_) => unreachable!("there is no deadline"),
         }
     }
 
-    /// Gives the wait up. Here is the party again.
-    pub fn cancel(self) -> (PartyEnd, &'a mut Party) {
-        let number = self.number;
-        let party = self.into_party();
-        (party.end(number), party)
+    /// Arrives, and waits until all have arrived, or until the time is over; then the party has not
+    /// arrived. The thread sleeps. It is never told that the barrier is worn.
+    ///
+    /// # Panics
+    ///
+    /// Where there is no memory for another round.
+    ///
+    /// ```
+    /// use cqs::{Barrier, TimeoutError};
+    /// use std::time::Duration;
+    ///
+    /// let barrier = Barrier::new(2);
+    /// let alone = barrier.wait_timeout(Duration::from_millis(1));
+    /// assert_eq!(alone.unwrap_err(), TimeoutError::TimedOut);
+    /// ```
+    pub fn wait_timeout(&self, time: Duration) -> Result<BarrierWait, TimeoutError> {
+        self.wait_until(deadline_after(time))
+    }
+
+    fn wait_until(&self, deadline: Option<Instant>) -> Result<BarrierWait, TimeoutError> {
+        let Some(arrived) = self.arrive() else { return Ok(LEADER) };
+        match arrived.gate.pass(arrived.number, deadline) {
+            Err(late) if self.withdraw(&arrived) => Err(late),
+            _ => Ok(FOLLOWER),
+        }
+    }
+
+    /// A party arrives. The last one ends the round, and lets all others through.
+    fn arrive(&self) -> Option<Arrived> {
+        let mut round = lock(&self.round);
+        let here = round.get_or_insert_with(|| Round::new(self.parties).unwrap_or_else(no_memory));
+        if !here.enter() {
+            return Some(Arrived { gate: here.gate.clone(), number: here.arrivals });
+        }
+        let over = round.take();
+        drop(round);
+        if let Some(over) = over {
+            over.gate.open();
+        }
+        None
+    }
+
+    /// A party that waits withdraws, and says whether it did: else all have arrived.
+    fn withdraw(&self, arrived: &Arrived) -> bool {
+        arrived.gate.strike(arrived.number);
+        let mut round = lock(&self.round);
+        match &mut *round {
+            Some(here) if Arc::ptr_eq(&here.gate, &arrived.gate) => {
+                here.leave();
+                true
+            }
+            _ => false,
+        }
     }
 }
 
-impl Drop for PartyWait<'_> {
+impl fmt::Debug for Barrier {
+    fn fmt(&self, f: &mut fmt::Formatter<'_>) -> fmt::Result {
+        let waiting = lock(&self.round).as_ref().map_or(0, |round| round.waits.len());
+        let mut shown = f.debug_struct("Barrier");
+        shown.field("parties", &self.parties).field("waiting", &waiting).finish_non_exhaustive()
+    }
+}
+
+/// A future that waits. Dropped, its party withdraws.
+struct Waiting<'a> {
+    barrier: &'a Barrier,
+    stage: Stage,
+}
+
+enum Stage {
+    New,
+    Arrived(Arrived),
+    Over,
+}
+
+impl Future for Waiting<'_> {
+    type Output = BarrierWait;
+
+    fn poll(mut self: Pin<&mut Self>, cx: &mut Context<'_>) -> Poll<Self::Output> {
+        if let Stage::New = self.stage {
+            let Some(arrived) = self.barrier.arrive() else {
+                self.stage = Stage::Over;
+                return Poll::Ready(LEADER);
+            };
+            self.stage = Stage::Arrived(arrived);
+        }
+        let Stage::Arrived(arrived) = &self.stage else {
+            panic!("a future was polled after it was ready")
+        };
+        if !arrived.gate.register(arrived.number, cx.waker()) {
+            return Poll::Pending;
+        }
+        self.stage = Stage::Over;
+        Poll::Ready(FOLLOWER)
+    }
+}
+
+impl Drop for Waiting<'_> {
     fn drop(&mut self) {
-        self.party.end(self.number);
+        if let Stage::Arrived(arrived) = &self.stage {
+            self.barrier.withdraw(arrived);
+        }
     }
 }

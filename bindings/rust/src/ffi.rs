@@ -18,12 +18,15 @@ pub(crate) struct Answer {
 
 pub(crate) const NEW: u32 = 0;
 pub(crate) const IN_USE: u32 = 3;
+pub(crate) const OWES: u32 = 4;
+/// The library says so of a permit and of a party.
 pub(crate) const NO_PERMIT: u32 = 6;
-pub(crate) const NO_PARTY: u32 = 6;
+pub(crate) const NO_WAIT: u32 = 7;
+pub(crate) const FULL: u32 = 8;
 pub(crate) const WORN: u32 = 9;
 pub(crate) const CROWD: u32 = 10;
 pub(crate) const MEMORY: u32 = 11;
-pub(crate) const BAD_CONFIG: u32 = 13;
+pub(crate) const NO_CALL: u32 = 14;
 pub(crate) const NOW: u32 = 16;
 pub(crate) const LATER: u32 = 17;
 pub(crate) const GOT: u32 = 18;
@@ -46,6 +49,7 @@ pub(crate) const COUNTED: u32 = 38;
 pub(crate) const LAST: u32 = 39;
 pub(crate) const LAST_OWING: u32 = 40;
 pub(crate) const ALREADY: u32 = 41;
+pub(crate) const FINISHED: u32 = 42;
 
 pub(crate) const KIND_SEMAPHORE: u32 = 0;
 pub(crate) const KIND_POOL: u32 = 1;

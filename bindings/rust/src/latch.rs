@@ -1,224 +1,279 @@
 //! A count-down latch.
 
-use crate::errors::{Crowded, MakeError, Worn};
-use crate::ffi;
-use crate::shared::Shared;
-use std::mem::ManuallyDrop;
-use std::ptr;
-use std::sync::Arc;
+use crate::errors::{MakeError, TimeoutError, Worn, expect_in};
+use crate::ffi::{self, Answer};
+use crate::gate::Gate;
+use crate::passes::{Passes, Waiters};
+use crate::primitive::{MOST_PASSES, MOST_WAITS, Primitive};
+use crate::semaphore::room_of;
+use crate::sleeper::deadline_after;
+use std::fmt;
+use std::future::Future;
+use std::pin::Pin;
+use std::task::{Context, Poll};
+use std::time::{Duration, Instant};
 
-/// How a wait that is given up leaves the latch.
-#[derive(Clone, Copy, Debug, PartialEq, Eq)]
-pub enum LatchMode {
-    /// It is counted out, and nobody resumes for it.
-    Smart,
-    /// Its number stays behind, and the resumption that comes for it ends there.
-    Simple,
-}
-
-/// How a latch is made.
+/// How a [`Latch`] is made.
+///
+/// ```
+/// use cqs::{Latch, LatchConfig};
+///
+/// let latch = Latch::with_config(LatchConfig { count: 0, ..Default::default() }).unwrap();
+/// assert!(latch.is_open());
+/// ```
 #[derive(Clone, Copy, Debug, PartialEq, Eq)]
 pub struct LatchConfig {
     /// How often it is to be counted down, up to 1,048,576. One of 0 is open.
-    pub count: u32,
-    /// How a wait that is given up leaves it.
-    pub mode: LatchMode,
-    /// How many passes there may be at once, from 1 to 31.
-    pub passes: u32,
-    /// How many waits may be drawn in all, from 1 to 1,048,576.
+    pub count: usize,
+    /// How many waits may be drawn in all, from 1 to 1,048,576: one by each caller who finds it
+    /// closed. Each takes 8 bytes from the start.
     pub limit: u64,
 }
 
 impl Default for LatchConfig {
-    /// One count, the smart mode, and as many passes and waits as there may be.
+    /// One count, and as many waits as there may be.
     fn default() -> LatchConfig {
-        LatchConfig { count: 1, mode: LatchMode::Smart, passes: 31, limit: 1_048_576 }
+        LatchConfig { count: 1, limit: MOST_WAITS }
     }
-}
-
-/// A count-down latch: it opens once it was counted down as often as it was made for, and then all
-/// who wait pass. Clones are the same latch.
-#[derive(Clone)]
-pub struct Latch {
-    shared: Arc<Shared>,
-}
-
-impl Latch {
-    /// A latch.
-    pub fn new(config: LatchConfig) -> Result<Latch, MakeError> {
-        let LatchConfig { count, mode, passes, limit } = config;
-        let kind = match mode {
-            LatchMode::Smart => ffi::KIND_LATCH,
-            LatchMode::Simple => ffi::KIND_SIMPLE_LATCH,
-        };
-        let shared = Shared::new(kind, count, passes, limit)?;
-        Ok(Latch { shared: Arc::new(shared) })
-    }
-
-    /// A pass, for one caller: one that another caller gave up, or a new one.
-    pub fn pass(&self) -> Result<LatchPass, Crowded> {
-        let number = self.shared.pass()?;
-        Ok(LatchPass { shared: self.shared.clone(), number, wait: None })
-    }
-}
-
-/// What one caller works with. It may go to another thread, and is used by one at a time.
-pub struct LatchPass {
-    shared: Arc<Shared>,
-    number: u32,
-    /// The wait that it has.
-    wait: Option<u64>,
 }
 
 /// What became of a count down.
+///
+/// ```
+/// use cqs::{CountDown, Latch};
+///
+/// let latch = Latch::new(1);
+/// if latch.count_down() == CountDown::Last {
+///     assert!(latch.is_open());
+/// }
+/// ```
 #[derive(Clone, Copy, Debug, PartialEq, Eq)]
-pub enum Down {
+pub enum CountDown {
     /// So many are left.
-    Left(u32),
-    /// It was the last one: the latch is open, and each who waited was resumed.
+    Left(usize),
+    /// It was the last one: the latch is open.
     Last,
     /// The count was used up before.
     Already,
 }
 
-/// What became of a wait.
-pub enum Entered<'a> {
-    /// The count was used up.
-    Passed,
-    /// The caller waits in line.
-    Later(LatchWait<'a>),
+/// A count-down latch, for any number of threads and tasks: it opens once it was counted down as
+/// often as it was made for, and then all who wait pass. It stays open.
+///
+/// # Examples
+///
+/// ```
+/// use cqs::Latch;
+/// use std::thread;
+///
+/// let done = Latch::new(3);
+/// thread::scope(|scope| {
+///     for _ in 0..3 {
+///         scope.spawn(|| done.count_down());
+///     }
+///     done.wait_blocking().expect("it isn't worn");
+/// });
+/// assert!(done.is_open());
+/// ```
+///
+/// ```
+/// use cqs::{Latch, Worn};
+///
+/// async fn begin(start: &Latch) -> Result<(), Worn> {
+///     start.wait().await
+/// }
+/// # use std::future::Future;
+/// # let latch = Latch::new(0);
+/// # let mut cx = std::task::Context::from_waker(std::task::Waker::noop());
+/// # assert!(std::pin::pin!(begin(&latch)).poll(&mut cx).is_ready());
+/// ```
+pub struct Latch {
+    passes: Passes<Gate>,
 }
 
-/// What became of a wait that was given up.
-#[derive(Clone, Copy, Debug, PartialEq, Eq)]
-pub enum LatchEnd {
-    /// It has left the line.
-    Gone,
-    /// The latch was opened, and the wait served before.
-    TooLate,
+/// A wait in line.
+#[derive(Clone, Copy, Debug)]
+struct Ticket {
+    pass: u32,
+    number: u64,
 }
 
-impl LatchPass {
-    /// Counts the latch down.
-    pub fn count_down(&mut self) -> Down {
-        let answer = self.shared.call(ffi::DO_LEAVE, self.number, 0);
+impl Latch {
+    /// A latch that is to be counted down so often, with as many waits as there may be.
+    ///
+    /// # Panics
+    ///
+    /// Where the count is above 1,048,576, or there is no memory: [`Latch::with_config`] says so.
+    #[must_use]
+    #[track_caller]
+    pub fn new(count: usize) -> Latch {
+        let made = Latch::with_config(LatchConfig { count, ..Default::default() });
+        made.unwrap_or_else(|error| panic!("no latch: {error}"))
+    }
+
+    /// A latch.
+    pub fn with_config(config: LatchConfig) -> Result<Latch, MakeError> {
+        let LatchConfig { count, limit } = config;
+        expect_in(0..=1_048_576, "count", count as u64)?;
+        let (kind, room) = (ffi::KIND_LATCH, room_of(limit));
+        let primitive = Primitive::new(kind, count as u32, MOST_PASSES, limit, room)?;
+        let latch = Latch { passes: Passes::new(primitive, Gate::default()) };
+        if count == 0 {
+            latch.gate().open();
+        }
+        Ok(latch)
+    }
+
+    fn gate(&self) -> &Gate {
+        &self.passes.waiters
+    }
+
+    /// Counts it down. The last one wakes all who wait.
+    ///
+    /// ```
+    /// use cqs::{CountDown, Latch};
+    ///
+    /// let latch = Latch::new(2);
+    /// assert_eq!(latch.count_down(), CountDown::Left(1));
+    /// assert_eq!(latch.count_down(), CountDown::Last);
+    /// assert_eq!(latch.count_down(), CountDown::Already);
+    /// ```
+    pub fn count_down(&self) -> CountDown {
+        let (_, answer) = self.passes.call_any(ffi::DO_LEAVE, self.passes.home());
         match answer.answer {
-            ffi::COUNTED => Down::Left(answer.number as u32),
-            ffi::LAST => Down::Last,
-            ffi::LAST_OWING => {
-                self.shared.finish_all(self.number);
-                Down::Last
+            ffi::COUNTED => CountDown::Left(answer.number as usize),
+            ffi::LAST | ffi::LAST_OWING => {
+                self.gate().open();
+                CountDown::Last
             }
-            ffi::ALREADY => Down::Already,
+            ffi::ALREADY => CountDown::Already,
             other => unreachable!("a count down was answered {other}"),
         }
     }
 
-    /// Passes where the count is used up, and else waits in line.
-    pub fn wait(&mut self) -> Result<Entered<'_>, Worn> {
-        self.end_forgotten();
-        let answer = self.shared.call(ffi::DO_ENTER, self.number, 0);
+    /// Whether it is open, and who waits passes.
+    #[must_use]
+    pub fn is_open(&self) -> bool {
+        self.gate().is_open()
+    }
+
+    /// Waits until it is open. Dropped before, the future leaves the line.
+    pub async fn wait(&self) -> Result<(), Worn> {
+        Waiting { latch: self, stage: Stage::New }.await
+    }
+
+    /// Waits until it is open. The thread sleeps.
+    pub fn wait_blocking(&self) -> Result<(), Worn> {
+        self.wait_until(None).map_err(|_| Worn)
+    }
+
+    /// Waits until it is open, or until the time is over. The thread sleeps.
+    ///
+    /// ```
+    /// use cqs::{Latch, TimeoutError};
+    /// use std::time::Duration;
+    ///
+    /// let latch = Latch::new(1);
+    /// let late = latch.wait_timeout(Duration::from_millis(1));
+    /// assert_eq!(late, Err(TimeoutError::TimedOut));
+    /// latch.count_down();
+    /// assert_eq!(latch.wait_timeout(Duration::ZERO), Ok(()));
+    /// ```
+    pub fn wait_timeout(&self, time: Duration) -> Result<(), TimeoutError> {
+        self.wait_until(deadline_after(time))
+    }
+
+    fn wait_until(&self, deadline: Option<Instant>) -> Result<(), TimeoutError> {
+        let Some(ticket) = self.come()? else { return Ok(()) };
+        let passed = self.gate().pass(ticket.number, deadline);
+        self.end(ticket);
+        passed
+    }
+
+    /// Passes, or comes to the line.
+    fn come(&self) -> Result<Option<Ticket>, Worn> {
+        if self.is_open() {
+            return Ok(None);
+        }
+        let (pass, answer) = self.passes.call_any(ffi::DO_ENTER, self.passes.home());
         match answer.answer {
-            ffi::PASSED => Ok(Entered::Passed),
-            ffi::LATER => {
-                let number = answer.number as u64;
-                self.wait = Some(number);
-                Ok(Entered::Later(LatchWait { pass: self, number }))
-            }
+            ffi::PASSED => Ok(None),
+            ffi::LATER => Ok(Some(Ticket { pass, number: answer.number as u64 })),
             ffi::WORN => Err(Worn),
             other => unreachable!("a wait was answered {other}"),
         }
     }
 
-    /// Waits until the latch is open, and lets other threads run between two looks.
-    pub fn wait_yielding(&mut self) -> Result<(), Worn> {
-        let Entered::Later(mut wait) = self.wait()? else { return Ok(()) };
-        while let Err(again) = wait.poll() {
-            wait = again;
-            std::thread::yield_now();
-        }
-        Ok(())
-    }
-
-    /// Looks at its wait, and says whether the latch was opened.
-    fn look(&mut self, wait: u64) -> bool {
-        match self.shared.call(ffi::DO_POLL, self.number, wait).answer {
-            ffi::THROUGH => {
-                self.wait = None;
-                true
+    /// Ends a wait. Where the latch is open it has been served, or is about to be: by somebody who
+    /// is leaving, to whom the resumption was left.
+    fn end(&self, Ticket { pass, number }: Ticket) {
+        if self.is_open() {
+            let answer = self.passes.call(ffi::DO_POLL, pass, number).answer;
+            if answer == ffi::THROUGH {
+                return;
             }
-            ffi::PENDING => false,
-            other => unreachable!("a poll was answered {other}"),
         }
+        self.passes.call(ffi::DO_CANCEL, pass, number);
     }
+}
 
-    /// What was forgotten, by `mem::forget`, is ended.
-    fn end_forgotten(&mut self) {
-        if let Some(wait) = self.wait {
-            self.end(wait);
-        }
-    }
-
-    /// Ends its wait.
-    fn end(&mut self, wait: u64) -> LatchEnd {
-        self.wait = None;
-        match self.shared.call(ffi::DO_CANCEL, self.number, wait).answer {
-            ffi::CANCELLED => LatchEnd::Gone,
-            ffi::CANCELLED_OWING => {
-                self.shared.finish_all(self.number);
-                LatchEnd::Gone
-            }
-            ffi::TOO_LATE => LatchEnd::TooLate,
-            other => unreachable!("a cancel was answered {other}"),
+impl Waiters for Gate {
+    fn hear(passes: &Passes<Gate>, answer: Answer) {
+        if let ffi::LAST | ffi::FINISHED = answer.answer {
+            passes.waiters.open();
         }
     }
 }
 
-impl Drop for LatchPass {
+impl fmt::Debug for Latch {
+    fn fmt(&self, f: &mut fmt::Formatter<'_>) -> fmt::Result {
+        f.debug_struct("Latch").field("is_open", &self.is_open()).finish_non_exhaustive()
+    }
+}
+
+/// A future that waits. Dropped, it leaves the line.
+struct Waiting<'a> {
+    latch: &'a Latch,
+    stage: Stage,
+}
+
+enum Stage {
+    New,
+    InLine(Ticket),
+    Over,
+}
+
+impl Future for Waiting<'_> {
+    type Output = Result<(), Worn>;
+
+    fn poll(mut self: Pin<&mut Self>, cx: &mut Context<'_>) -> Poll<Self::Output> {
+        let latch = self.latch;
+        let ticket = match self.stage {
+            Stage::New => match latch.come() {
+                Ok(Some(ticket)) => {
+                    self.stage = Stage::InLine(ticket);
+                    ticket
+                }
+                Ok(None) => return Poll::Ready(Ok(())),
+                Err(worn) => return Poll::Ready(Err(worn)),
+            },
+            Stage::InLine(ticket) => ticket,
+            Stage::Over => panic!("a future was polled after it was ready"),
+        };
+        if !latch.gate().register(ticket.number, cx.waker()) {
+            return Poll::Pending;
+        }
+        self.stage = Stage::Over;
+        latch.end(ticket);
+        Poll::Ready(Ok(()))
+    }
+}
+
+impl Drop for Waiting<'_> {
     fn drop(&mut self) {
-        self.end_forgotten();
-        self.shared.put_idle(self.number);
-    }
-}
-
-/// A wait in line. It leaves the line when it is dropped.
-pub struct LatchWait<'a> {
-    pass: &'a mut LatchPass,
-    number: u64,
-}
-
-impl<'a> LatchWait<'a> {
-    /// The number of the wait.
-    pub fn number(&self) -> u64 {
-        self.number
-    }
-
-    /// The pass, of which this wait is no more.
-    fn into_pass(self) -> &'a mut LatchPass {
-        let this = ManuallyDrop::new(self);
-        // SAFETY: `this` is not dropped, and its pass is read once.
-        unsafe { ptr::read(&this.pass) }
-    }
-
-    /// Looks whether the latch was opened: then here is the pass again.
-    pub fn poll(self) -> Result<&'a mut LatchPass, LatchWait<'a>> {
-        if self.pass.look(self.number) {
-            Ok(self.into_pass())
-        } else {
-            Err(self)
+        if let Stage::InLine(ticket) = self.stage {
+            self.latch.gate().strike(ticket.number);
+            self.latch.end(ticket);
         }
-    }
-
-    /// Gives the wait up. Here is the pass again.
-    pub fn cancel(self) -> (LatchEnd, &'a mut LatchPass) {
-        let number = self.number;
-        let pass = self.into_pass();
-        (pass.end(number), pass)
-    }
-}
-
-impl Drop for LatchWait<'_> {
-    fn drop(&mut self) {
-        self.pass.end(self.number);
     }
 }

@@ -1,37 +1,91 @@
-//! Fair primitives whose waiters can leave, over the static library that is proved in Rattle: a
-//! semaphore, a mutex, a pool, a count-down latch, and a barrier.
+//! Fair primitives whose waiters can leave, over a library that is proved in Rattle: a semaphore, a
+//! mutex, a pool of values, a count-down latch, and a barrier.
 //!
-//! ```ignore
-//! let semaphore = cqs::Semaphore::new(cqs::Config { permits: 3, ..cqs::Config::default() })?;
-//! let mut pass = semaphore.pass()?;                  // one for each thread or task
-//! let permit = pass.acquire_yielding()?;             // or `pass.acquire()?.await`
-//! /* work */
-//! permit.release();
+//! ```
+//! use cqs::Semaphore;
+//!
+//! # fn main() -> Result<(), Box<dyn std::error::Error>> {
+//! let semaphore = Semaphore::new(3);
+//! let permit = semaphore.acquire_blocking()?;      // or `semaphore.acquire().await?`
+//! assert_eq!(semaphore.available_permits(), 2);
+//! drop(permit);                                    // it is given back
+//! assert_eq!(semaphore.available_permits(), 3);
+//! # Ok(())
+//! # }
 //! ```
 //!
-//! Each caller has a [`Pass`]. A pass is borrowed for as long as a [`Permit`] or a [`Wait`] of it
-//! lives, so a pass never has more than one of them, nobody else's permit is given back, and no
-//! wait is looked at with another pass. What is dropped is ended: a wait leaves the line, a permit
-//! is given back, and a pass goes back to the semaphore, for the next caller.
+//! # Which one do I want?
 //!
-//! No call blocks, sleeps or takes a lock but those that say so.
+//! | there is | take | you call |
+//! |---|---|---|
+//! | work that at most so many may do at once | [`Semaphore`] | `acquire`, and drop the permit |
+//! | a value that one at a time may change | [`Mutex`] | `lock`, and drop the guard |
+//! | a few values, connections say, of which each caller wants one | [`Pool`] | `take`, and drop the item |
+//! | something that must have happened first, once | [`Latch`] | `count_down` there, `wait` here |
+//! | up to 32 parties that go on together, round after round | [`Barrier`] | `wait` |
+//! | a caller who looks at his wait himself, and wants no table of wakers | [`pass`] | |
+//!
+//! Each call that may wait comes in the same forms:
+//!
+//! | form | who waits |
+//! |---|---|
+//! | `acquire().await` | a task of any executor |
+//! | `acquire_blocking()` | a thread, asleep |
+//! | `acquire_timeout(time)` | a thread, asleep, until the time is over |
+//! | `try_acquire()` | nobody |
+//! | `acquire_owned()` and its like, over an [`Arc`](std::sync::Arc) | as above; what it gives borrows nothing |
+//!
+//! # What to know
+//!
+//! - **Any number** of threads and tasks may call, with `&self`. Below are at most 32 passes of the
+//!   library, which they share; a call has one for some fifty nanoseconds.
+//! - **Order is by number.** Who must wait draws a number, and the line is served in the order of
+//!   these numbers. Whose call began first may draw the later one, if both come at once.
+//! - **Dropped is ended.** A future that is dropped leaves the line, and what had come to it just
+//!   before goes to the next one. So does a call whose time is over. A permit, a guard and an item
+//!   are given back.
+//! - **A panic holds nothing**: it drops what it had. Nothing is poisoned.
+//! - **Forgotten is lost**, by [`mem::forget`](std::mem::forget): a permit is never given back, and
+//!   a future that waits takes what comes to it.
+//! - **`limit`**: a primitive is made for a number of waits in all, at most and by default 1,048,576.
+//!   Only who has to wait draws one (of a pool the first taker of each value, too). Then it is
+//!   [`Worn`]: what is free can be had, but nobody waits any more. A barrier renews itself.
+//! - **Memory**: 8 bytes for each wait of `limit`, from the start, and some 25 KiB besides; so by
+//!   default 10 MB, which take some ten milliseconds to make. A config with a smaller `limit` costs
+//!   less. A waiter takes some 100 bytes while it waits.
+//! - **Wakes**: who gives something to a waiter wakes that one, and nobody else. A future is polled
+//!   once when it comes and once when it is served; it never asks to be polled again by itself. Who
+//!   waits looks at the wait when it was served, and once before at most.
+//!
+//! # What is proved, and what is tested
+//!
+//! The calls of the library are proved: each of its answers means what the contracts in Rattle say
+//! (`bindings/c/cqs.h` names them). This crate is plain Rust, and tested: that it calls them rightly,
+//! who is woken, and what stays at hand. A permit that is given back while nobody waits stays at
+//! hand here, and is taken from here; as soon as somebody waits, all goes through the library.
+
+#![warn(missing_docs, missing_debug_implementations, unreachable_pub)]
+#![deny(unsafe_op_in_unsafe_fn)]
 
 mod barrier;
 mod errors;
 mod ffi;
+mod gate;
 mod latch;
+mod line;
 mod mutex;
-mod pass;
+pub mod pass;
+mod passes;
 mod pool;
+mod primitive;
 mod semaphore;
-mod shared;
-mod wait;
+mod sleeper;
+mod spares;
+mod wakers;
 
-pub use barrier::{Arrival, ArriveError, Barrier, BarrierConfig, Party, PartyEnd, PartyWait};
-pub use errors::{Crowded, MakeError, Worn};
-pub use latch::{Down, Entered, Latch, LatchConfig, LatchEnd, LatchMode, LatchPass, LatchWait};
-pub use mutex::{LockEnd, LockWait, Locked, Mutex, MutexConfig, MutexGuard, MutexPass};
-pub use pass::{Acquired, Pass, Permit, TryError};
-pub use pool::{Item, Pool, PoolConfig, PoolPass, TakeEnd, TakeWait, Taken};
-pub use semaphore::{Config, Semaphore};
-pub use wait::{Acquire, Cancelled, Wait};
+pub use barrier::{Barrier, BarrierConfig, BarrierWait};
+pub use errors::{BadNumber, MakeError, NoneFree, TimeoutError, Worn};
+pub use latch::{CountDown, Latch, LatchConfig};
+pub use mutex::{Lock, Mutex, MutexConfig, MutexGuard, OwnedMutexGuard};
+pub use pool::{Item, OwnedItem, Pool, PoolConfig, Take};
+pub use semaphore::{Acquire, OwnedPermit, Permit, Semaphore, SemaphoreConfig};

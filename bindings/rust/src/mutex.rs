@@ -1,272 +1,379 @@
-//! A mutex around a value: one permit of a semaphore, and the value, which its guard lends.
+//! A mutex around a value: a semaphore of one permit, and the value, which its guard lends.
 
-use crate::errors::{Crowded, MakeError, Worn};
-use crate::ffi;
-use crate::pass::TryError;
-use crate::shared::Shared;
+use crate::errors::{MakeError, NoneFree, TimeoutError, Worn};
+use crate::line::{Coming, Held, Line};
+use crate::primitive::MOST_WAITS;
+use crate::semaphore::permits;
+use crate::spares::Permits;
 use std::cell::UnsafeCell;
+use std::fmt;
+use std::future::Future;
 use std::marker::PhantomData;
-use std::mem::ManuallyDrop;
 use std::ops::{Deref, DerefMut};
-use std::ptr;
+use std::pin::Pin;
 use std::sync::Arc;
+use std::task::{Context, Poll};
+use std::time::Duration;
 
-/// How a mutex is made.
+/// How a [`Mutex`] is made.
+///
+/// ```
+/// use cqs::{Mutex, MutexConfig};
+///
+/// let mutex = Mutex::with_config("a value", MutexConfig { limit: 1000 }).unwrap();
+/// assert_eq!(*mutex.lock_blocking().unwrap(), "a value");
+/// ```
 #[derive(Clone, Copy, Debug, PartialEq, Eq)]
 pub struct MutexConfig {
-    /// How many passes there may be at once, from 1 to 31.
-    pub passes: u32,
-    /// How many waits may be drawn in all, from 1 to 1,048,576.
+    /// How many waits may be drawn in all, from 1 to 1,048,576: one by each caller who finds it
+    /// locked. Each takes 8 bytes from the start.
     pub limit: u64,
 }
 
 impl Default for MutexConfig {
-    /// As many passes and waits as there may be.
+    /// As many waits as there may be.
     fn default() -> MutexConfig {
-        MutexConfig { passes: 31, limit: 1_048_576 }
+        MutexConfig { limit: MOST_WAITS }
     }
 }
 
-/// The mutex and its value.
-struct Held<T> {
-    shared: Shared,
+/// A fair mutex around a value, for any number of threads and tasks.
+///
+/// A guard may go to another thread, and may be held over an `.await`.
+///
+/// **Nothing is poisoned.** A panic drops the guard, and so unlocks; what the panic left in the
+/// value, the next one finds, as with the mutexes of tokio and of parking_lot.
+///
+/// It takes the room for its waits, by default 10 MB: so it is made for what is shared by many, and
+/// not for each of a thousand records. A [`MutexConfig`] with a smaller `limit` costs less.
+///
+/// # Examples
+///
+/// ```
+/// use cqs::Mutex;
+/// use std::thread;
+///
+/// let sum = Mutex::new(0);
+/// thread::scope(|scope| {
+///     for _ in 0..4 {
+///         scope.spawn(|| *sum.lock_blocking().expect("it isn't worn") += 1);
+///     }
+/// });
+/// assert_eq!(sum.into_inner(), 4);
+/// ```
+///
+/// ```
+/// use cqs::{Mutex, Worn};
+///
+/// async fn add(sum: &Mutex<u64>) -> Result<(), Worn> {
+///     *sum.lock().await? += 1;
+///     Ok(())
+/// }
+/// # use std::future::Future;
+/// # let sum = Mutex::new(0);
+/// # let mut cx = std::task::Context::from_waker(std::task::Waker::noop());
+/// # assert!(std::pin::pin!(add(&sum)).poll(&mut cx).is_ready());
+/// ```
+pub struct Mutex<T: ?Sized> {
+    line: Line<Permits>,
     value: UnsafeCell<T>,
 }
 
-// SAFETY: the value is lent by a guard alone, and its pass has the only permit. The library's steps
-// are sequentially consistent: who has the permit sees what was written before it was given back.
-unsafe impl<T: Send> Sync for Held<T> {}
-
-/// A fair mutex around a value. Clones are the same mutex.
-pub struct Mutex<T> {
-    held: Arc<Held<T>>,
-}
-
-impl<T> Clone for Mutex<T> {
-    fn clone(&self) -> Mutex<T> {
-        Mutex { held: self.held.clone() }
-    }
-}
+// SAFETY: the value is lent by a guard alone, and its guard has the only permit. Who takes it sees
+// what was written before it was given back: the steps of the library and those of `Line` are
+// sequentially consistent.
+unsafe impl<T: ?Sized + Send> Sync for Mutex<T> {}
+// `Send` for `T: Send` comes of its fields.
 
 impl<T> Mutex<T> {
-    /// A mutex that is free.
-    pub fn new(value: T, config: MutexConfig) -> Result<Mutex<T>, MakeError> {
-        let shared = Shared::new(ffi::KIND_SEMAPHORE, 1, config.passes, config.limit)?;
-        Ok(Mutex { held: Arc::new(Held { shared, value: UnsafeCell::new(value) }) })
+    /// A mutex that is free, with as many waits as there may be.
+    ///
+    /// # Panics
+    ///
+    /// Where there is no memory: [`Mutex::with_config`] says so.
+    #[must_use]
+    #[track_caller]
+    pub fn new(value: T) -> Mutex<T> {
+        let made = Mutex::with_config(value, MutexConfig::default());
+        made.unwrap_or_else(|error| panic!("no mutex: {error}"))
     }
 
-    /// A pass, for one caller: one that another caller gave up, or a new one.
-    pub fn pass(&self) -> Result<MutexPass<T>, Crowded> {
-        let number = self.held.shared.pass()?;
-        Ok(MutexPass { held: self.held.clone(), number, wait: None })
+    /// A mutex that is free. Where none can be made, the value is dropped.
+    pub fn with_config(value: T, config: MutexConfig) -> Result<Mutex<T>, MakeError> {
+        let MutexConfig { limit } = config;
+        Ok(Mutex { line: permits(1, limit)?, value: UnsafeCell::new(value) })
+    }
+
+    /// The value.
+    #[must_use]
+    pub fn into_inner(self) -> T {
+        self.value.into_inner()
     }
 }
 
-/// What one caller works with. It may go to another thread, and is used by one at a time.
-pub struct MutexPass<T> {
-    held: Arc<Held<T>>,
-    number: u32,
-    /// The wait that it has.
-    wait: Option<u64>,
-}
-
-/// What became of a lock.
-pub enum Locked<'a, T> {
-    /// The caller has the mutex.
-    Now(MutexGuard<'a, T>),
-    /// It waits in line.
-    Later(LockWait<'a, T>),
-}
-
-/// What became of a wait that was given up.
-pub enum LockEnd<'a, T> {
-    /// It has left the line; here is its pass.
-    Gone(&'a mut MutexPass<T>),
-    /// The mutex had come before.
-    TooLate(MutexGuard<'a, T>),
-}
-
-impl<T> MutexPass<T> {
-    fn call(&self, what: u32, number: u64) -> ffi::Answer {
-        self.held.shared.call(what, self.number, number)
+impl<T: ?Sized> Mutex<T> {
+    fn guard(&self, held: Held) -> MutexGuard<'_, T> {
+        MutexGuard { mutex: self, held, lent: PhantomData }
     }
 
-    /// The mutex where it is free, or else a wait for it.
-    pub fn lock(&mut self) -> Result<Locked<'_, T>, Worn> {
-        let answer = self.call(ffi::DO_ENTER, 0);
-        match answer.answer {
-            ffi::NOW => Ok(Locked::Now(MutexGuard::of(self))),
-            ffi::LATER => {
-                let number = answer.number as u64;
-                self.wait = Some(number);
-                Ok(Locked::Later(LockWait { pass: self, number }))
-            }
-            ffi::WORN => Err(Worn),
-            other => unreachable!("a lock was answered {other}"),
-        }
+    fn owned_guard(self: Arc<Self>, held: Held) -> OwnedMutexGuard<T> {
+        OwnedMutexGuard { mutex: self, held, lent: PhantomData }
+    }
+
+    /// The mutex, as soon as it comes. Dropped before, the future leaves the line.
+    #[inline]
+    pub fn lock(&self) -> Lock<'_, T> {
+        Lock { mutex: self, coming: self.line.coming() }
+    }
+
+    /// The mutex. The thread sleeps until it comes.
+    pub fn lock_blocking(&self) -> Result<MutexGuard<'_, T>, Worn> {
+        self.line.take_blocking().map(|held| self.guard(held))
+    }
+
+    /// The mutex. The thread sleeps until it comes, or until the time is over.
+    ///
+    /// ```
+    /// use cqs::{Mutex, TimeoutError};
+    /// use std::time::Duration;
+    ///
+    /// let mutex = Mutex::new("a value");
+    /// let guard = mutex.lock_timeout(Duration::from_secs(1)).unwrap();
+    /// let none = mutex.lock_timeout(Duration::from_millis(1));
+    /// assert_eq!(none.unwrap_err(), TimeoutError::TimedOut);
+    /// assert_eq!(*guard, "a value");
+    /// ```
+    pub fn lock_timeout(&self, time: Duration) -> Result<MutexGuard<'_, T>, TimeoutError> {
+        self.line.take_within(time).map(|held| self.guard(held))
     }
 
     /// The mutex where it is free. It never waits.
-    pub fn try_lock(&mut self) -> Result<MutexGuard<'_, T>, TryError> {
-        let answer = self.call(ffi::DO_TRY, 0);
-        match answer.answer {
-            ffi::GOT => Ok(MutexGuard::of(self)),
-            ffi::NONE_FREE => Err(TryError::NoneFree),
-            ffi::CONTENDED => Err(TryError::Contended(answer.number)),
-            other => unreachable!("a try was answered {other}"),
-        }
+    ///
+    /// ```
+    /// let mutex = cqs::Mutex::new(1);
+    /// let guard = mutex.try_lock().unwrap();
+    /// assert!(mutex.try_lock().is_err());
+    /// # drop(guard);
+    /// ```
+    pub fn try_lock(&self) -> Result<MutexGuard<'_, T>, NoneFree> {
+        self.line.try_take().map(|held| self.guard(held)).ok_or(NoneFree)
     }
 
-    /// Locks, and lets other threads run between two looks at its wait.
-    pub fn lock_yielding(&mut self) -> Result<MutexGuard<'_, T>, Worn> {
-        match self.lock()? {
-            Locked::Now(guard) => Ok(guard),
-            Locked::Later(mut wait) => loop {
-                match wait.poll() {
-                    Ok(guard) => return Ok(guard),
-                    Err(again) => {
-                        wait = again;
-                        std::thread::yield_now();
-                    }
-                }
-            },
-        }
+    /// As [`Mutex::lock`], with a guard that borrows nothing.
+    pub async fn lock_owned(self: Arc<Self>) -> Result<OwnedMutexGuard<T>, Worn> {
+        let held = self.line.coming().await?;
+        Ok(self.owned_guard(held))
     }
 
-    /// The state: 1 where the mutex is free, and else less those who wait with it not on its way.
-    pub fn state(&mut self) -> i64 {
-        let answer = self.call(ffi::DO_STATE, 0);
-        assert_eq!(answer.answer, ffi::STATE);
-        answer.number
+    /// As [`Mutex::lock_blocking`], with a guard that borrows nothing.
+    ///
+    /// ```
+    /// use cqs::Mutex;
+    /// use std::sync::Arc;
+    ///
+    /// let mutex = Arc::new(Mutex::new(vec![1]));
+    /// let mut guard = mutex.clone().lock_owned_blocking().unwrap();
+    /// guard.push(2);
+    /// std::thread::spawn(move || drop(guard)).join().unwrap();
+    /// assert_eq!(*mutex.try_lock().unwrap(), [1, 2]);
+    /// ```
+    pub fn lock_owned_blocking(self: Arc<Self>) -> Result<OwnedMutexGuard<T>, Worn> {
+        let held = self.line.take_blocking()?;
+        Ok(self.owned_guard(held))
     }
 
-    /// Ends its wait, and says whether the mutex had come before.
-    fn end(&mut self, wait: u64) -> bool {
-        self.wait = None;
-        match self.call(ffi::DO_CANCEL, wait).answer {
-            ffi::TOO_LATE => true,
-            ffi::CANCELLED => false,
-            ffi::CANCELLED_OWING => {
-                self.held.shared.finish_all(self.number);
-                false
-            }
-            other => unreachable!("a cancel was answered {other}"),
-        }
+    /// As [`Mutex::lock_timeout`], with a guard that borrows nothing.
+    pub fn lock_owned_timeout(
+        self: Arc<Self>,
+        time: Duration,
+    ) -> Result<OwnedMutexGuard<T>, TimeoutError> {
+        let held = self.line.take_within(time)?;
+        Ok(self.owned_guard(held))
     }
 
-    /// Gives the mutex back, and says whether it had it.
-    fn unlock(&mut self) -> bool {
-        let answer = self.call(ffi::DO_LEAVE, 0).answer;
-        if answer == ffi::UNDER {
-            self.held.shared.finish_all(self.number);
-        }
-        answer != ffi::NO_PERMIT
+    /// As [`Mutex::try_lock`], with a guard that borrows nothing.
+    pub fn try_lock_owned(self: Arc<Self>) -> Result<OwnedMutexGuard<T>, NoneFree> {
+        let held = self.line.try_take().ok_or(NoneFree)?;
+        Ok(self.owned_guard(held))
     }
-}
 
-impl<T> Drop for MutexPass<T> {
-    fn drop(&mut self) {
-        // What was forgotten, by `mem::forget`, is ended here.
-        if let Some(wait) = self.wait {
-            self.end(wait);
-        }
-        self.unlock();
-        self.held.shared.put_idle(self.number);
+    /// The value: nobody else has the mutex.
+    #[must_use]
+    pub fn get_mut(&mut self) -> &mut T {
+        self.value.get_mut()
     }
 }
 
-/// The mutex, and its value. It is given back when it is dropped.
-pub struct MutexGuard<'a, T> {
-    pass: &'a mut MutexPass<T>,
+impl<T: Default> Default for Mutex<T> {
+    fn default() -> Mutex<T> {
+        Mutex::new(T::default())
+    }
+}
+
+impl<T> From<T> for Mutex<T> {
+    fn from(value: T) -> Mutex<T> {
+        Mutex::new(value)
+    }
+}
+
+impl<T: ?Sized + fmt::Debug> fmt::Debug for Mutex<T> {
+    fn fmt(&self, f: &mut fmt::Formatter<'_>) -> fmt::Result {
+        let mut shown = f.debug_struct("Mutex");
+        match self.try_lock() {
+            Ok(guard) => shown.field("value", &&*guard),
+            Err(NoneFree) => shown.field("value", &format_args!("<locked>")),
+        };
+        shown.finish_non_exhaustive()
+    }
+}
+
+/// The future of [`Mutex::lock`]. Dropped, it leaves the line.
+///
+/// ```
+/// # async fn add(mutex: &cqs::Mutex<u64>) -> Result<(), cqs::Worn> {
+/// let lock: cqs::Lock<u64> = mutex.lock();
+/// *lock.await? += 1;
+/// # Ok(())
+/// # }
+/// ```
+#[must_use = "futures do nothing unless they are awaited"]
+pub struct Lock<'a, T: ?Sized> {
+    mutex: &'a Mutex<T>,
+    coming: Coming<'a, Permits>,
+}
+
+impl<'a, T: ?Sized> Future for Lock<'a, T> {
+    type Output = Result<MutexGuard<'a, T>, Worn>;
+
+    #[inline]
+    fn poll(mut self: Pin<&mut Self>, cx: &mut Context<'_>) -> Poll<Self::Output> {
+        let mutex = self.mutex;
+        let came = Pin::new(&mut self.coming).poll(cx);
+        came.map_ok(|held| mutex.guard(held))
+    }
+}
+
+impl<T: ?Sized> fmt::Debug for Lock<'_, T> {
+    fn fmt(&self, f: &mut fmt::Formatter<'_>) -> fmt::Result {
+        f.debug_struct("Lock").finish_non_exhaustive()
+    }
+}
+
+/// A [`Mutex`] that somebody has, and its value. It is unlocked when it is dropped, also by a panic.
+///
+/// ```
+/// let mutex = cqs::Mutex::new(vec![1]);
+/// let mut guard = mutex.lock_blocking().unwrap();
+/// guard.push(2);
+/// guard.unlock();
+/// assert_eq!(*mutex.lock_blocking().unwrap(), [1, 2]);
+/// ```
+#[must_use = "a guard that isn't kept unlocks at once"]
+pub struct MutexGuard<'a, T: ?Sized> {
+    mutex: &'a Mutex<T>,
+    held: Held,
     /// It may be shared between threads where its value may.
     lent: PhantomData<&'a mut T>,
 }
 
-impl<'a, T> MutexGuard<'a, T> {
-    fn of(pass: &'a mut MutexPass<T>) -> MutexGuard<'a, T> {
-        MutexGuard { pass, lent: PhantomData }
-    }
-
-    /// Gives it back, and hands out the pass.
-    pub fn unlock(self) -> &'a mut MutexPass<T> {
-        let this = ManuallyDrop::new(self);
-        // SAFETY: `this` is not dropped, and its pass is read once.
-        let pass = unsafe { ptr::read(&this.pass) };
-        assert!(pass.unlock());
-        pass
-    }
+impl<T: ?Sized> MutexGuard<'_, T> {
+    /// Unlocks: the same as dropping it.
+    pub fn unlock(self) {}
 }
 
-impl<T> Deref for MutexGuard<'_, T> {
+impl<T: ?Sized> Deref for MutexGuard<'_, T> {
     type Target = T;
 
     fn deref(&self) -> &T {
-        // SAFETY: the guard's pass has the only permit, and no other guard is there.
-        unsafe { &*self.pass.held.value.get() }
+        // SAFETY: the guard has the only permit, and no other guard is there.
+        unsafe { &*self.mutex.value.get() }
     }
 }
 
-impl<T> DerefMut for MutexGuard<'_, T> {
+impl<T: ?Sized> DerefMut for MutexGuard<'_, T> {
     fn deref_mut(&mut self) -> &mut T {
         // SAFETY: as above.
-        unsafe { &mut *self.pass.held.value.get() }
+        unsafe { &mut *self.mutex.value.get() }
     }
 }
 
-impl<T> Drop for MutexGuard<'_, T> {
+impl<T: ?Sized> Drop for MutexGuard<'_, T> {
     fn drop(&mut self) {
-        self.pass.unlock();
+        self.mutex.line.give(self.held);
     }
 }
 
-/// A wait in line. It leaves the line when it is dropped.
-pub struct LockWait<'a, T> {
-    pass: &'a mut MutexPass<T>,
-    number: u64,
-}
-
-impl<'a, T> LockWait<'a, T> {
-    /// The number of the wait.
-    pub fn number(&self) -> u64 {
-        self.number
-    }
-
-    /// The pass, of which this wait is no more.
-    fn into_pass(self) -> &'a mut MutexPass<T> {
-        let this = ManuallyDrop::new(self);
-        // SAFETY: `this` is not dropped, and its pass is read once.
-        unsafe { ptr::read(&this.pass) }
-    }
-
-    /// Looks whether the mutex has come.
-    pub fn poll(self) -> Result<MutexGuard<'a, T>, LockWait<'a, T>> {
-        match self.pass.call(ffi::DO_POLL, self.number).answer {
-            ffi::GRANTED => {
-                let pass = self.into_pass();
-                pass.wait = None;
-                Ok(MutexGuard::of(pass))
-            }
-            ffi::PENDING => Err(self),
-            other => unreachable!("a poll was answered {other}"),
-        }
-    }
-
-    /// Gives the wait up.
-    pub fn cancel(self) -> LockEnd<'a, T> {
-        let number = self.number;
-        let pass = self.into_pass();
-        if pass.end(number) {
-            LockEnd::TooLate(MutexGuard::of(pass))
-        } else {
-            LockEnd::Gone(pass)
-        }
+impl<T: ?Sized + fmt::Debug> fmt::Debug for MutexGuard<'_, T> {
+    fn fmt(&self, f: &mut fmt::Formatter<'_>) -> fmt::Result {
+        (**self).fmt(f)
     }
 }
 
-impl<T> Drop for LockWait<'_, T> {
+impl<T: ?Sized + fmt::Display> fmt::Display for MutexGuard<'_, T> {
+    fn fmt(&self, f: &mut fmt::Formatter<'_>) -> fmt::Result {
+        (**self).fmt(f)
+    }
+}
+
+/// A [`Mutex`] that is shared by an [`Arc`] and that somebody has, and its value. It is unlocked
+/// when it is dropped, also by a panic.
+///
+/// ```
+/// use cqs::Mutex;
+/// use std::sync::Arc;
+///
+/// let guard = Arc::new(Mutex::new(7)).lock_owned_blocking().unwrap();
+/// assert_eq!(std::thread::spawn(move || *guard).join().unwrap(), 7);
+/// ```
+#[must_use = "a guard that isn't kept unlocks at once"]
+pub struct OwnedMutexGuard<T: ?Sized> {
+    mutex: Arc<Mutex<T>>,
+    held: Held,
+    /// It may be shared between threads where its value may.
+    lent: PhantomData<T>,
+}
+
+impl<T: ?Sized> OwnedMutexGuard<T> {
+    /// The mutex that it is of.
+    #[must_use]
+    pub fn mutex(&self) -> &Arc<Mutex<T>> {
+        &self.mutex
+    }
+
+    /// Unlocks: the same as dropping it.
+    pub fn unlock(self) {}
+}
+
+impl<T: ?Sized> Deref for OwnedMutexGuard<T> {
+    type Target = T;
+
+    fn deref(&self) -> &T {
+        // SAFETY: the guard has the only permit, and no other guard is there.
+        unsafe { &*self.mutex.value.get() }
+    }
+}
+
+impl<T: ?Sized> DerefMut for OwnedMutexGuard<T> {
+    fn deref_mut(&mut self) -> &mut T {
+        // SAFETY: as above.
+        unsafe { &mut *self.mutex.value.get() }
+    }
+}
+
+impl<T: ?Sized> Drop for OwnedMutexGuard<T> {
     fn drop(&mut self) {
-        if self.pass.end(self.number) {
-            self.pass.unlock();
-        }
+        self.mutex.line.give(self.held);
+    }
+}
+
+impl<T: ?Sized + fmt::Debug> fmt::Debug for OwnedMutexGuard<T> {
+    fn fmt(&self, f: &mut fmt::Formatter<'_>) -> fmt::Result {
+        (**self).fmt(f)
+    }
+}
+
+impl<T: ?Sized + fmt::Display> fmt::Display for OwnedMutexGuard<T> {
+    fn fmt(&self, f: &mut fmt::Formatter<'_>) -> fmt::Result {
+        (**self).fmt(f)
     }
 }

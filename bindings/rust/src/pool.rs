@@ -1,274 +1,359 @@
 //! A pool of values: who takes one has it until it is put back.
 
-use crate::errors::{Crowded, MakeError, Worn};
+use crate::errors::{MakeError, NoneFree, TimeoutError, Worn, expect_in};
 use crate::ffi;
-use crate::shared::Shared;
+use crate::line::{Coming, Held, Line};
+use crate::primitive::{MOST_PASSES, MOST_WAITS, Primitive};
+use crate::semaphore::room_of;
+use crate::spares::Elements;
 use std::cell::UnsafeCell;
+use std::fmt;
+use std::future::Future;
 use std::marker::PhantomData;
-use std::mem::ManuallyDrop;
 use std::ops::{Deref, DerefMut};
-use std::ptr;
+use std::pin::Pin;
 use std::sync::Arc;
+use std::task::{Context, Poll};
+use std::time::Duration;
 
-/// How a pool is made.
+/// How a [`Pool`] is made.
+///
+/// ```
+/// use cqs::{Pool, PoolConfig};
+///
+/// let pool = Pool::with_config(["a", "b"], PoolConfig { limit: 1000 }).unwrap();
+/// assert_eq!(pool.size(), 2);
+/// ```
 #[derive(Clone, Copy, Debug, PartialEq, Eq)]
 pub struct PoolConfig {
-    /// How many passes there may be at once, from 1 to 31.
-    pub passes: u32,
-    /// How many takes there may be in all, from 1 to 1,048,576.
+    /// How many waits may be drawn in all, from 1 to 1,048,576: one by each caller who finds no
+    /// value at hand, and one by the first who takes each value. Each takes 8 bytes from the start.
     pub limit: u64,
 }
 
 impl Default for PoolConfig {
-    /// As many passes and takes as there may be.
+    /// As many waits as there may be.
     fn default() -> PoolConfig {
-        PoolConfig { passes: 31, limit: 1_048_576 }
+        PoolConfig { limit: MOST_WAITS }
     }
 }
 
-/// The pool and its values, each under the number of an element.
-struct Held<T> {
-    shared: Shared,
+/// A fair pool of values, for any number of threads and tasks.
+///
+/// Who finds no value stands in line. A value that is taken is its taker's alone until its item is
+/// dropped, and the next one finds it as it was left.
+///
+/// # Examples
+///
+/// ```
+/// use cqs::Pool;
+/// use std::thread;
+///
+/// let buffers = Pool::new(vec![String::new(), String::new()]);
+/// thread::scope(|scope| {
+///     for thread in 0..4 {
+///         let buffers = &buffers;
+///         scope.spawn(move || {
+///             let mut buffer = buffers.take_blocking().expect("it isn't worn");
+///             buffer.push_str(&thread.to_string());
+///         });
+///     }
+/// });
+/// let all: String = buffers.into_values().concat();
+/// assert_eq!(all.len(), 4);
+/// ```
+///
+/// ```
+/// use cqs::{Pool, Worn};
+///
+/// async fn ask(connections: &Pool<u32>) -> Result<(), Worn> {
+///     let mut connection = connections.take().await?;
+///     *connection += 1;
+///     Ok(())
+/// }
+/// # use std::future::Future;
+/// # let pool = Pool::new(vec![0]);
+/// # let mut cx = std::task::Context::from_waker(std::task::Waker::noop());
+/// # assert!(std::pin::pin!(ask(&pool)).poll(&mut cx).is_ready());
+/// ```
+pub struct Pool<T> {
+    line: Line<Elements>,
+    /// The values, each under the number of an element.
     values: Box<[UnsafeCell<T>]>,
 }
 
-// SAFETY: a value is lent by an item alone, whose pass has the element of its number, and nobody
-// else has it. The library's steps are sequentially consistent: who takes the element sees what was
-// written before it was put back.
-unsafe impl<T: Send> Sync for Held<T> {}
-
-/// A fair pool of values. Clones are the same pool.
-pub struct Pool<T> {
-    held: Arc<Held<T>>,
-}
-
-impl<T> Clone for Pool<T> {
-    fn clone(&self) -> Pool<T> {
-        Pool { held: self.held.clone() }
-    }
-}
+// SAFETY: a value is lent by an item alone, which has the element of its number, and nobody else has
+// it. Who takes the element sees what was written before it was put back: the steps of the library
+// and those of `Line` are sequentially consistent.
+unsafe impl<T: Send> Sync for Pool<T> {}
 
 impl<T> Pool<T> {
-    /// A pool of these values, from 1 to 4,096 of them, all of them free.
-    pub fn new(values: Vec<T>, config: PoolConfig) -> Result<Pool<T>, MakeError> {
-        let size = u32::try_from(values.len()).map_err(|_| MakeError::BadConfig)?;
-        let shared = Shared::new(ffi::KIND_POOL, size, config.passes, config.limit)?;
-        let values = values.into_iter().map(UnsafeCell::new).collect();
-        Ok(Pool { held: Arc::new(Held { shared, values }) })
+    /// A pool of these values, all of them free, with as many waits as there may be.
+    ///
+    /// # Panics
+    ///
+    /// Where there are no values or more than 4,096, or no memory: [`Pool::with_config`] says so.
+    #[must_use]
+    #[track_caller]
+    pub fn new(values: impl IntoIterator<Item = T>) -> Pool<T> {
+        let made = Pool::with_config(values, PoolConfig::default());
+        made.unwrap_or_else(|error| panic!("no pool: {error}"))
     }
 
-    /// A pass, for one caller: one that another caller gave up, or a new one.
-    pub fn pass(&self) -> Result<PoolPass<T>, Crowded> {
-        let number = self.held.shared.pass()?;
-        Ok(PoolPass { held: self.held.clone(), number, wait: None, element: None })
-    }
-}
-
-/// What one caller works with. It may go to another thread, and is used by one at a time.
-pub struct PoolPass<T> {
-    held: Arc<Held<T>>,
-    number: u32,
-    /// The wait that it has.
-    wait: Option<u64>,
-    /// The element that it has.
-    element: Option<u32>,
-}
-
-/// What became of a take.
-pub enum Taken<'a, T> {
-    /// The caller has a value.
-    Now(Item<'a, T>),
-    /// It waits in line.
-    Later(TakeWait<'a, T>),
-}
-
-/// What became of a wait that was given up.
-pub enum TakeEnd<'a, T> {
-    /// It has left the line; here is its pass.
-    Gone(&'a mut PoolPass<T>),
-    /// A value had come before.
-    TooLate(Item<'a, T>),
-}
-
-impl<T> PoolPass<T> {
-    fn call(&self, what: u32, number: u64) -> ffi::Answer {
-        self.held.shared.call(what, self.number, number)
+    /// A pool of these values, from 1 to 4,096 of them, all of them free. Where none can be made,
+    /// they are dropped.
+    pub fn with_config(
+        values: impl IntoIterator<Item = T>,
+        config: PoolConfig,
+    ) -> Result<Pool<T>, MakeError> {
+        let PoolConfig { limit } = config;
+        let values: Box<[UnsafeCell<T>]> = values.into_iter().map(UnsafeCell::new).collect();
+        expect_in(1..=4096, "values", values.len() as u64)?;
+        let size = values.len() as u32;
+        let (kind, room) = (ffi::KIND_POOL, room_of(limit));
+        let primitive = Primitive::new(kind, size, MOST_PASSES, limit, room)?;
+        let line = Line::new(primitive, Elements::new(values.len()), size);
+        Ok(Pool { line, values })
     }
 
-    /// A value where one is free, or else a wait for one.
-    pub fn take(&mut self) -> Result<Taken<'_, T>, Worn> {
-        self.end_forgotten();
-        let answer = self.call(ffi::DO_ENTER, 0);
-        match answer.answer {
-            ffi::TOOK => Ok(Taken::Now(Item::of(self, answer.number as u32))),
-            ffi::LATER => {
-                let number = answer.number as u64;
-                self.wait = Some(number);
-                Ok(Taken::Later(TakeWait { pass: self, number }))
-            }
-            ffi::WORN => Err(Worn),
-            other => unreachable!("a take was answered {other}"),
-        }
+    fn item(&self, held: Held) -> Item<'_, T> {
+        Item { pool: self, held, lent: PhantomData }
     }
 
-    /// Takes, and lets other threads run between two looks at its wait.
-    pub fn take_yielding(&mut self) -> Result<Item<'_, T>, Worn> {
-        match self.take()? {
-            Taken::Now(item) => Ok(item),
-            Taken::Later(mut wait) => loop {
-                match wait.poll() {
-                    Ok(item) => return Ok(item),
-                    Err(again) => {
-                        wait = again;
-                        std::thread::yield_now();
-                    }
-                }
-            },
-        }
+    fn owned_item(self: Arc<Self>, held: Held) -> OwnedItem<T> {
+        OwnedItem { pool: self, held, lent: PhantomData }
     }
 
-    /// Ends its wait, and says which element had come before, if one had.
-    fn end(&mut self, wait: u64) -> Option<u32> {
-        self.wait = None;
-        let answer = self.call(ffi::DO_CANCEL, wait);
-        match answer.answer {
-            ffi::TOO_LATE => Some(answer.number as u32),
-            ffi::CANCELLED => None,
-            ffi::CANCELLED_OWING => {
-                self.held.shared.finish_all(self.number);
-                None
-            }
-            other => unreachable!("a cancel was answered {other}"),
-        }
+    /// A value, as soon as one comes. Dropped before, the future leaves the line.
+    #[inline]
+    pub fn take(&self) -> Take<'_, T> {
+        Take { pool: self, coming: self.line.coming() }
     }
 
-    /// Puts the element that it has back.
-    fn put(&mut self, element: u32) {
-        self.element = None;
-        match self.call(ffi::DO_LEAVE, element.into()).answer {
-            ffi::SENT | ffi::LEFT => {}
-            ffi::UNDER => self.held.shared.finish_all(self.number),
-            other => unreachable!("a put was answered {other}"),
-        }
+    /// A value. The thread sleeps until one comes.
+    pub fn take_blocking(&self) -> Result<Item<'_, T>, Worn> {
+        self.line.take_blocking().map(|held| self.item(held))
     }
 
-    /// What was forgotten, by `mem::forget`, is ended.
-    fn end_forgotten(&mut self) {
-        if let Some(wait) = self.wait {
-            self.element = self.end(wait);
-        }
-        if let Some(element) = self.element {
-            self.put(element);
-        }
+    /// A value. The thread sleeps until one comes, or until the time is over.
+    pub fn take_timeout(&self, time: Duration) -> Result<Item<'_, T>, TimeoutError> {
+        self.line.take_within(time).map(|held| self.item(held))
+    }
+
+    /// A value where one is free. It never waits. It may miss one that is put back just now, and it
+    /// seldom draws a wait.
+    ///
+    /// ```
+    /// let pool = cqs::Pool::new(["a", "b"]);
+    /// let (first, second) = (pool.try_take().unwrap(), pool.try_take().unwrap());
+    /// assert_ne!(*first, *second);
+    /// assert!(pool.try_take().is_err());
+    /// ```
+    pub fn try_take(&self) -> Result<Item<'_, T>, NoneFree> {
+        self.line.try_take().map(|held| self.item(held)).ok_or(NoneFree)
+    }
+
+    /// As [`Pool::take`], with an item that borrows nothing.
+    pub async fn take_owned(self: Arc<Self>) -> Result<OwnedItem<T>, Worn> {
+        let held = self.line.coming().await?;
+        Ok(self.owned_item(held))
+    }
+
+    /// As [`Pool::take_blocking`], with an item that borrows nothing.
+    pub fn take_owned_blocking(self: Arc<Self>) -> Result<OwnedItem<T>, Worn> {
+        let held = self.line.take_blocking()?;
+        Ok(self.owned_item(held))
+    }
+
+    /// As [`Pool::take_timeout`], with an item that borrows nothing.
+    pub fn take_owned_timeout(
+        self: Arc<Self>,
+        time: Duration,
+    ) -> Result<OwnedItem<T>, TimeoutError> {
+        let held = self.line.take_within(time)?;
+        Ok(self.owned_item(held))
+    }
+
+    /// As [`Pool::try_take`], with an item that borrows nothing.
+    pub fn try_take_owned(self: Arc<Self>) -> Result<OwnedItem<T>, NoneFree> {
+        let held = self.line.try_take().ok_or(NoneFree)?;
+        Ok(self.owned_item(held))
+    }
+
+    /// How many values there are, free or taken.
+    #[must_use]
+    pub fn size(&self) -> usize {
+        self.values.len()
+    }
+
+    /// The values, in the order in which they were given: nobody has one.
+    pub fn iter_mut(&mut self) -> impl Iterator<Item = &mut T> {
+        self.values.iter_mut().map(UnsafeCell::get_mut)
+    }
+
+    /// The values, in the order in which they were given.
+    #[must_use]
+    pub fn into_values(self) -> Vec<T> {
+        self.values.into_vec().into_iter().map(UnsafeCell::into_inner).collect()
     }
 }
 
-impl<T> Drop for PoolPass<T> {
-    fn drop(&mut self) {
-        self.end_forgotten();
-        self.held.shared.put_idle(self.number);
+impl<T> fmt::Debug for Pool<T> {
+    fn fmt(&self, f: &mut fmt::Formatter<'_>) -> fmt::Result {
+        f.debug_struct("Pool").field("size", &self.size()).finish_non_exhaustive()
     }
 }
 
-/// A value that was taken. It is put back when it is dropped.
+/// The future of [`Pool::take`]. Dropped, it leaves the line.
+///
+/// ```
+/// # async fn add(pool: &cqs::Pool<u64>) -> Result<(), cqs::Worn> {
+/// let take: cqs::Take<u64> = pool.take();
+/// *take.await? += 1;
+/// # Ok(())
+/// # }
+/// ```
+#[must_use = "futures do nothing unless they are awaited"]
+pub struct Take<'a, T> {
+    pool: &'a Pool<T>,
+    coming: Coming<'a, Elements>,
+}
+
+impl<'a, T> Future for Take<'a, T> {
+    type Output = Result<Item<'a, T>, Worn>;
+
+    #[inline]
+    fn poll(mut self: Pin<&mut Self>, cx: &mut Context<'_>) -> Poll<Self::Output> {
+        let pool = self.pool;
+        let came = Pin::new(&mut self.coming).poll(cx);
+        came.map_ok(|held| pool.item(held))
+    }
+}
+
+impl<T> fmt::Debug for Take<'_, T> {
+    fn fmt(&self, f: &mut fmt::Formatter<'_>) -> fmt::Result {
+        f.debug_struct("Take").finish_non_exhaustive()
+    }
+}
+
+/// A value that was taken from a [`Pool`]. It is put back when it is dropped, also by a panic.
+///
+/// ```
+/// let pool = cqs::Pool::new([10]);
+/// let mut item = pool.take_blocking().unwrap();
+/// *item += 1;
+/// item.put();
+/// assert_eq!(pool.into_values(), [11]);
+/// ```
+#[must_use = "an item that isn't kept is put back at once"]
 pub struct Item<'a, T> {
-    pass: &'a mut PoolPass<T>,
-    number: u32,
+    pool: &'a Pool<T>,
+    held: Held,
     /// It may be shared between threads where its value may.
     lent: PhantomData<&'a mut T>,
 }
 
-impl<'a, T> Item<'a, T> {
-    fn of(pass: &'a mut PoolPass<T>, number: u32) -> Item<'a, T> {
-        pass.element = Some(number);
-        Item { pass, number, lent: PhantomData }
-    }
-
+impl<T> Item<'_, T> {
     /// Which of the values it is, by its place among those that the pool was made of.
-    pub fn number(&self) -> u32 {
-        self.number
+    #[must_use]
+    pub fn index(&self) -> usize {
+        self.held.element as usize
     }
 
-    /// Puts it back, and hands out the pass.
-    pub fn put(self) -> &'a mut PoolPass<T> {
-        let this = ManuallyDrop::new(self);
-        // SAFETY: `this` is not dropped, and its pass is read once.
-        let pass = unsafe { ptr::read(&this.pass) };
-        pass.put(this.number);
-        pass
-    }
+    /// Puts it back: the same as dropping it.
+    pub fn put(self) {}
 }
 
 impl<T> Deref for Item<'_, T> {
     type Target = T;
 
     fn deref(&self) -> &T {
-        // SAFETY: the item's pass has this element, and no other item has it.
-        unsafe { &*self.pass.held.values[self.number as usize].get() }
+        // SAFETY: the item has this element, and no other item has it.
+        unsafe { &*self.pool.values[self.index()].get() }
     }
 }
 
 impl<T> DerefMut for Item<'_, T> {
     fn deref_mut(&mut self) -> &mut T {
         // SAFETY: as above.
-        unsafe { &mut *self.pass.held.values[self.number as usize].get() }
+        unsafe { &mut *self.pool.values[self.index()].get() }
     }
 }
 
 impl<T> Drop for Item<'_, T> {
     fn drop(&mut self) {
-        self.pass.put(self.number);
+        self.pool.line.give(self.held);
     }
 }
 
-/// A wait in line. It leaves the line when it is dropped.
-pub struct TakeWait<'a, T> {
-    pass: &'a mut PoolPass<T>,
-    number: u64,
-}
-
-impl<'a, T> TakeWait<'a, T> {
-    /// The number of the wait.
-    pub fn number(&self) -> u64 {
-        self.number
-    }
-
-    /// The pass, of which this wait is no more.
-    fn into_pass(self) -> &'a mut PoolPass<T> {
-        let this = ManuallyDrop::new(self);
-        // SAFETY: `this` is not dropped, and its pass is read once.
-        unsafe { ptr::read(&this.pass) }
-    }
-
-    /// Looks whether a value has come.
-    pub fn poll(self) -> Result<Item<'a, T>, TakeWait<'a, T>> {
-        let answer = self.pass.call(ffi::DO_POLL, self.number);
-        match answer.answer {
-            ffi::TOOK => {
-                let pass = self.into_pass();
-                pass.wait = None;
-                Ok(Item::of(pass, answer.number as u32))
-            }
-            ffi::PENDING => Err(self),
-            other => unreachable!("a poll was answered {other}"),
-        }
-    }
-
-    /// Gives the wait up.
-    pub fn cancel(self) -> TakeEnd<'a, T> {
-        let number = self.number;
-        let pass = self.into_pass();
-        match pass.end(number) {
-            Some(element) => TakeEnd::TooLate(Item::of(pass, element)),
-            None => TakeEnd::Gone(pass),
-        }
+impl<T: fmt::Debug> fmt::Debug for Item<'_, T> {
+    fn fmt(&self, f: &mut fmt::Formatter<'_>) -> fmt::Result {
+        (**self).fmt(f)
     }
 }
 
-impl<T> Drop for TakeWait<'_, T> {
+/// A value that was taken from a [`Pool`] that is shared by an [`Arc`]. It is put back when it is
+/// dropped, also by a panic.
+///
+/// ```
+/// use cqs::Pool;
+/// use std::sync::Arc;
+///
+/// let pool = Arc::new(Pool::new(["a"]));
+/// let item = pool.clone().take_owned_blocking().unwrap();
+/// assert_eq!((*item, item.index()), ("a", 0));
+/// std::thread::spawn(move || item.put()).join().unwrap();
+/// assert!(pool.try_take().is_ok());
+/// ```
+#[must_use = "an item that isn't kept is put back at once"]
+pub struct OwnedItem<T> {
+    pool: Arc<Pool<T>>,
+    held: Held,
+    /// It may be shared between threads where its value may.
+    lent: PhantomData<T>,
+}
+
+impl<T> OwnedItem<T> {
+    /// The pool that it is of.
+    #[must_use]
+    pub fn pool(&self) -> &Arc<Pool<T>> {
+        &self.pool
+    }
+
+    /// Which of the values it is, by its place among those that the pool was made of.
+    #[must_use]
+    pub fn index(&self) -> usize {
+        self.held.element as usize
+    }
+
+    /// Puts it back: the same as dropping it.
+    pub fn put(self) {}
+}
+
+impl<T> Deref for OwnedItem<T> {
+    type Target = T;
+
+    fn deref(&self) -> &T {
+        // SAFETY: the item has this element, and no other item has it.
+        unsafe { &*self.pool.values[self.index()].get() }
+    }
+}
+
+impl<T> DerefMut for OwnedItem<T> {
+    fn deref_mut(&mut self) -> &mut T {
+        // SAFETY: as above.
+        unsafe { &mut *self.pool.values[self.index()].get() }
+    }
+}
+
+impl<T> Drop for OwnedItem<T> {
     fn drop(&mut self) {
-        if let Some(element) = self.pass.end(self.number) {
-            self.pass.put(element);
-        }
+        self.pool.line.give(self.held);
+    }
+}
+
+impl<T: fmt::Debug> fmt::Debug for OwnedItem<T> {
+    fn fmt(&self, f: &mut fmt::Formatter<'_>) -> fmt::Result {
+        (**self).fmt(f)
     }
 }

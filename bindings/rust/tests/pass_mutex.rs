@@ -1,7 +1,8 @@
 //! The mutex: rows of calls worked out by hand, calls by chance, each compared with a plain mutex,
 //! and threads that add.
 
-use cqs::{LockEnd, LockWait, Locked, Mutex, MutexConfig, MutexGuard, MutexPass, TryError, Worn};
+use cqs::Worn;
+use cqs::pass::{LockEnd, LockWait, Locked, Mutex, MutexConfig, MutexGuard, MutexPass, TryError};
 use std::collections::VecDeque;
 use std::thread;
 
@@ -30,16 +31,16 @@ fn the_word_goes_along() {
     let mut held = now(&mut one);
     assert_eq!(*held, 5);
     *held = u64::MAX;
-    let wait = later(&mut two).poll().err().expect("the mutex is held");
+    let wait = later(&mut two).poll().expect_err("the mutex is held");
     let one = held.unlock();
-    let mut held = wait.poll().ok().expect("it came");
+    let mut held = wait.poll().expect("it came");
     assert_eq!(*held, u64::MAX);
     *held = 7;
     assert_eq!(one.try_lock().err(), Some(TryError::NoneFree));
     assert_eq!(one.state(), 0);
     drop(held);
     assert_eq!(one.state(), 1);
-    assert_eq!(*one.try_lock().ok().expect("it is free"), 7);
+    assert_eq!(*one.try_lock().expect("it is free"), 7);
 }
 
 #[test]
@@ -66,7 +67,22 @@ fn what_was_forgotten_is_ended_with_its_pass() {
     let mut two = mutex.pass().unwrap();
     let wait = later(&mut two);
     drop(one);
-    assert_eq!(*wait.poll().ok().expect("it came"), 2);
+    assert_eq!(*wait.poll().expect("it came"), 2);
+}
+
+#[test]
+fn what_was_forgotten_is_ended_by_the_next_call() {
+    let mutex = mutex(1, 10);
+    let (mut one, mut two) = (mutex.pass().unwrap(), mutex.pass().unwrap());
+    std::mem::forget(now(&mut one));
+    *now(&mut one) = 2;
+    let held = now(&mut one);
+    std::mem::forget(later(&mut two));
+    let wait = later(&mut two);
+    drop(held);
+    assert_eq!(*wait.poll().expect("it came"), 2);
+    std::mem::forget(now(&mut two));
+    assert_eq!(two.state(), 1);
 }
 
 #[test]
@@ -215,5 +231,5 @@ fn four_threads_add() {
             });
         }
     });
-    assert_eq!(*mutex.pass().unwrap().try_lock().ok().expect("it is free"), 20_000);
+    assert_eq!(*mutex.pass().unwrap().try_lock().expect("it is free"), 20_000);
 }

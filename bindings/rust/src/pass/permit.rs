@@ -1,22 +1,43 @@
-//! A pass, and the permit that it has.
+//! A pass of a semaphore, and the permit that it has.
 
 use crate::errors::Worn;
 use crate::ffi;
-use crate::shared::Shared;
-use crate::wait::{Acquire, Wait};
+use crate::pass::shared::Shared;
+use crate::pass::{TryError, Wait};
 use std::mem::ManuallyDrop;
 use std::ptr;
 use std::sync::Arc;
 
 /// What one caller works with. It may go to another thread, and is used by one at a time.
-pub struct Pass {
+///
+/// ```
+/// use cqs::pass::{Semaphore, TryError};
+///
+/// let semaphore = Semaphore::new(Default::default()).unwrap();
+/// let (mut one, mut two) = (semaphore.pass().unwrap(), semaphore.pass().unwrap());
+/// let permit = one.try_acquire().unwrap();
+/// assert_eq!(two.try_acquire().unwrap_err(), TryError::NoneFree);
+/// permit.release();
+/// assert!(two.try_acquire().is_ok());
+/// ```
+#[derive(Debug)]
+pub struct SemaphorePass {
     shared: Arc<Shared>,
     number: u32,
-    /// The wait that it has.
-    wait: Option<u64>,
+    has: Has,
+}
+
+/// What the pass has lent, or what of it was forgotten.
+#[derive(Clone, Copy, Debug)]
+enum Has {
+    Nothing,
+    Wait(u64),
+    Permit,
 }
 
 /// What became of an acquire.
+#[derive(Debug)]
+#[must_use = "a wait that isn't kept leaves the line at once"]
 pub enum Acquired<'a> {
     /// The caller has a permit.
     Now(Permit<'a>),
@@ -24,23 +45,16 @@ pub enum Acquired<'a> {
     Later(Wait<'a>),
 }
 
-/// Why a try got nothing.
-#[derive(Clone, Copy, Debug, PartialEq, Eq)]
-pub enum TryError {
-    /// No permit was free.
-    NoneFree,
-    /// One was free, and another caller was first; the state that was found.
-    Contended(i64),
-}
-
 /// A permit. It is given back when it is dropped.
+#[derive(Debug)]
+#[must_use = "a permit that isn't kept is given back at once"]
 pub struct Permit<'a> {
-    pass: &'a mut Pass,
+    pass: &'a mut SemaphorePass,
 }
 
-impl Pass {
-    pub(crate) fn of(shared: Arc<Shared>, number: u32) -> Pass {
-        Pass { shared, number, wait: None }
+impl SemaphorePass {
+    pub(crate) fn of(shared: Arc<Shared>, number: u32) -> SemaphorePass {
+        SemaphorePass { shared, number, has: Has::Nothing }
     }
 
     /// Looks at its wait, and says whether the permit has come.
@@ -48,7 +62,7 @@ impl Pass {
         let answer = self.shared.call(ffi::DO_POLL, self.number, wait);
         match answer.answer {
             ffi::GRANTED => {
-                self.wait = None;
+                self.has = Has::Permit;
                 true
             }
             ffi::PENDING => false,
@@ -58,10 +72,13 @@ impl Pass {
 
     /// Ends its wait, and says whether the permit had come before.
     pub(crate) fn end(&mut self, wait: u64) -> bool {
-        self.wait = None;
+        self.has = Has::Nothing;
         let answer = self.shared.call(ffi::DO_CANCEL, self.number, wait);
         match answer.answer {
-            ffi::TOO_LATE => true,
+            ffi::TOO_LATE => {
+                self.has = Has::Permit;
+                true
+            }
             ffi::CANCELLED => false,
             ffi::CANCELLED_OWING => {
                 self.shared.finish_all(self.number);
@@ -71,14 +88,28 @@ impl Pass {
         }
     }
 
+    /// What was forgotten, by `mem::forget`, is ended.
+    fn end_forgotten(&mut self) {
+        if let Has::Wait(wait) = self.has {
+            self.end(wait);
+        }
+        if let Has::Permit = self.has {
+            self.release();
+        }
+    }
+
     /// A permit where one is free, or else a wait for one.
     pub fn acquire(&mut self) -> Result<Acquired<'_>, Worn> {
+        self.end_forgotten();
         let answer = self.shared.call(ffi::DO_ENTER, self.number, 0);
         match answer.answer {
-            ffi::NOW => Ok(Acquired::Now(Permit { pass: self })),
+            ffi::NOW => {
+                self.has = Has::Permit;
+                Ok(Acquired::Now(Permit { pass: self }))
+            }
             ffi::LATER => {
                 let number = answer.number as u64;
-                self.wait = Some(number);
+                self.has = Has::Wait(number);
                 Ok(Acquired::Later(Wait::of(self, number)))
             }
             ffi::WORN => Err(Worn),
@@ -88,9 +119,13 @@ impl Pass {
 
     /// A permit where one is free. It never waits.
     pub fn try_acquire(&mut self) -> Result<Permit<'_>, TryError> {
+        self.end_forgotten();
         let answer = self.shared.call(ffi::DO_TRY, self.number, 0);
         match answer.answer {
-            ffi::GOT => Ok(Permit { pass: self }),
+            ffi::GOT => {
+                self.has = Has::Permit;
+                Ok(Permit { pass: self })
+            }
             ffi::NONE_FREE => Err(TryError::NoneFree),
             ffi::CONTENDED => Err(TryError::Contended(answer.number)),
             other => unreachable!("a try was answered {other}"),
@@ -113,19 +148,16 @@ impl Pass {
         }
     }
 
-    /// A future that acquires. A poll whose look is pending asks to be polled again at once.
-    pub fn acquire_async(&mut self) -> Acquire<'_> {
-        Acquire::of(self)
-    }
-
     /// The state: the free permits, less those who wait with none on its way.
     pub fn state(&mut self) -> i64 {
+        self.end_forgotten();
         let answer = self.shared.call(ffi::DO_STATE, self.number, 0);
         assert_eq!(answer.answer, ffi::STATE);
         answer.number
     }
 
     fn release(&mut self) {
+        self.has = Has::Nothing;
         let answer = self.shared.call(ffi::DO_LEAVE, self.number, 0);
         assert_ne!(answer.answer, ffi::NO_PERMIT);
         if answer.answer == ffi::UNDER {
@@ -135,12 +167,12 @@ impl Pass {
 }
 
 impl<'a> Permit<'a> {
-    pub(crate) fn of(pass: &'a mut Pass) -> Permit<'a> {
+    pub(crate) fn of(pass: &'a mut SemaphorePass) -> Permit<'a> {
         Permit { pass }
     }
 
     /// Gives it back, and hands out the pass.
-    pub fn release(self) -> &'a mut Pass {
+    pub fn release(self) -> &'a mut SemaphorePass {
         let this = ManuallyDrop::new(self);
         // SAFETY: `this` is not dropped, and its pass is read once.
         let pass = unsafe { ptr::read(&this.pass) };
@@ -155,20 +187,9 @@ impl Drop for Permit<'_> {
     }
 }
 
-impl Drop for Pass {
+impl Drop for SemaphorePass {
     fn drop(&mut self) {
-        // What was forgotten, by `mem::forget`, is ended here.
-        if let Some(wait) = self.wait {
-            self.end(wait);
-        }
-        loop {
-            let answer = self.shared.call(ffi::DO_LEAVE, self.number, 0);
-            match answer.answer {
-                ffi::NO_PERMIT => break,
-                ffi::UNDER => self.shared.finish_all(self.number),
-                _ => {}
-            }
-        }
+        self.end_forgotten();
         self.shared.put_idle(self.number);
     }
 }

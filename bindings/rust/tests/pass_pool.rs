@@ -1,7 +1,8 @@
 //! The pool: rows of calls worked out by hand, calls by chance, each compared with a plain pool,
 //! and threads that share its values.
 
-use cqs::{Item, MakeError, Pool, PoolConfig, PoolPass, TakeEnd, TakeWait, Taken, Worn};
+use cqs::pass::{Item, Pool, PoolConfig, PoolPass, TakeEnd, TakeWait, Taken};
+use cqs::{MakeError, Worn};
 use std::collections::VecDeque;
 use std::sync::atomic::{AtomicBool, AtomicU64, Ordering};
 use std::thread;
@@ -39,11 +40,11 @@ fn in_order() {
     assert_eq!((third.number(), fourth.number()), (2, 3));
     *first += 7;
     let one = first.put();
-    let fourth = fourth.poll().err().expect("the first of the line is served first");
-    let third = third.poll().ok().expect("it was the first of the line");
+    let fourth = fourth.poll().expect_err("the first of the line is served first");
+    let third = third.poll().expect("it was the first of the line");
     assert_eq!((third.number(), *third), (0, 7));
     second.put();
-    let fourth = fourth.poll().ok().expect("it was the next");
+    let fourth = fourth.poll().expect("it was the next");
     assert_eq!(fourth.number(), 1);
     // What is put back first is taken first.
     drop(fourth);
@@ -94,16 +95,19 @@ fn worn() {
 
 #[test]
 fn sizes_out_of_range() {
-    let sizes = |size, passes, limit| {
-        Pool::new(vec![(); size], PoolConfig { passes, limit }).err()
+    let sizes = |size, passes, limit| match Pool::new(vec![(); size], PoolConfig { passes, limit })
+    {
+        Err(MakeError::BadConfig(number)) => number.name(),
+        Err(MakeError::Memory) => "memory",
+        Ok(_) => "",
     };
-    assert_eq!(sizes(0, 1, 1), Some(MakeError::BadConfig));
-    assert_eq!(sizes(4_097, 1, 1), Some(MakeError::BadConfig));
-    assert_eq!(sizes(1, 0, 1), Some(MakeError::BadConfig));
-    assert_eq!(sizes(1, 32, 1), Some(MakeError::BadConfig));
-    assert_eq!(sizes(1, 1, 0), Some(MakeError::BadConfig));
-    assert_eq!(sizes(1, 1, 1_048_577), Some(MakeError::BadConfig));
-    assert_eq!(sizes(4_096, 31, 1), None);
+    assert_eq!(sizes(0, 1, 1), "values");
+    assert_eq!(sizes(4_097, 1, 1), "values");
+    assert_eq!(sizes(1, 0, 1), "passes");
+    assert_eq!(sizes(1, 32, 1), "passes");
+    assert_eq!(sizes(1, 1, 0), "limit");
+    assert_eq!(sizes(1, 1, 1_048_577), "limit");
+    assert_eq!(sizes(4_096, 31, 1), "");
 }
 
 #[test]

@@ -4,7 +4,8 @@
 use std::sync::atomic::{AtomicU32, Ordering};
 use std::thread;
 
-use cqs::{Down, Entered, Latch, LatchConfig, LatchEnd, LatchMode, LatchPass, LatchWait, Worn};
+use cqs::Worn;
+use cqs::pass::{Down, Entered, Latch, LatchConfig, LatchEnd, LatchMode, LatchPass, LatchWait};
 
 fn latch(count: u32, mode: LatchMode, limit: u64) -> Latch {
     Latch::new(LatchConfig { count, mode, limit, ..LatchConfig::default() }).expect("memory")
@@ -27,7 +28,7 @@ fn opened_by_the_last() {
         assert_eq!(one.count_down(), Down::Left(1));
         let wait = later(&mut two);
         assert_eq!(wait.number(), 0);
-        let wait = wait.poll().err().expect("one count is left");
+        let wait = wait.poll().expect_err("one count is left");
         assert_eq!(one.count_down(), Down::Last);
         assert!(wait.poll().is_ok());
         assert_eq!(one.count_down(), Down::Already);

@@ -1,12 +1,8 @@
 //! Threads on one semaphore.
 
-use cqs::{Acquired, Cancelled, Config, Semaphore};
+use cqs::pass::{Acquired, Cancelled, Semaphore, SemaphoreConfig};
 use std::cell::UnsafeCell;
-use std::future::Future;
-use std::pin::pin;
-use std::sync::Arc;
 use std::sync::atomic::{AtomicI64, AtomicU64, Ordering};
-use std::task::{Context, Poll, Wake, Waker};
 use std::thread;
 
 /// A number that only who has the one permit may touch.
@@ -19,7 +15,7 @@ unsafe impl Sync for Guarded {}
 fn one_permit_excludes() {
     const THREADS: u64 = 4;
     const ROUNDS: u64 = 2_000;
-    let semaphore = Semaphore::new(Config::default()).unwrap();
+    let semaphore = Semaphore::new(SemaphoreConfig::default()).unwrap();
     let number = Guarded(UnsafeCell::new(0));
     let given_up = AtomicU64::new(0);
     thread::scope(|scope| {
@@ -59,7 +55,8 @@ fn one_permit_excludes() {
 
 #[test]
 fn never_more_than_its_permits() {
-    let semaphore = Semaphore::new(Config { permits: 3, ..Config::default() }).unwrap();
+    let semaphore =
+        Semaphore::new(SemaphoreConfig { permits: 3, ..SemaphoreConfig::default() }).unwrap();
     let (inside, most) = (AtomicI64::new(0), AtomicI64::new(0));
     thread::scope(|scope| {
         for _ in 0..6 {
@@ -77,45 +74,4 @@ fn never_more_than_its_permits() {
     });
     assert!(most.into_inner() <= 3);
     assert_eq!(semaphore.pass().unwrap().state(), 3);
-}
-
-struct Idle;
-
-impl Wake for Idle {
-    fn wake(self: Arc<Self>) {}
-}
-
-fn block_on<F: Future>(future: F) -> F::Output {
-    let waker = Waker::from(Arc::new(Idle));
-    let mut cx = Context::from_waker(&waker);
-    let mut future = pin!(future);
-    loop {
-        match future.as_mut().poll(&mut cx) {
-            Poll::Ready(output) => return output,
-            Poll::Pending => thread::yield_now(),
-        }
-    }
-}
-
-#[test]
-fn futures() {
-    let semaphore = Semaphore::new(Config::default()).unwrap();
-    thread::scope(|scope| {
-        for _ in 0..3 {
-            let semaphore = &semaphore;
-            scope.spawn(move || {
-                let mut pass = semaphore.pass().unwrap();
-                for round in 0..400 {
-                    if round % 4 == 0 {
-                        // Polled once, and dropped: it leaves the line.
-                        let waker = Waker::from(Arc::new(Idle));
-                        let _ = pin!(pass.acquire_async()).poll(&mut Context::from_waker(&waker));
-                        continue;
-                    }
-                    block_on(pass.acquire_async()).unwrap().release();
-                }
-            });
-        }
-    });
-    assert_eq!(semaphore.pass().unwrap().state(), 1);
 }

@@ -1,7 +1,8 @@
 //! The barrier: rows of calls worked out by hand, calls by chance, each compared with a plain
 //! barrier, and threads that arrive and withdraw.
 
-use cqs::{Arrival, ArriveError, Barrier, BarrierConfig, MakeError, Party, PartyEnd, PartyWait};
+use cqs::MakeError;
+use cqs::pass::{Arrival, ArriveError, Barrier, BarrierConfig, Party, PartyEnd, PartyWait};
 use std::sync::atomic::{AtomicU32, Ordering};
 use std::thread;
 
@@ -27,9 +28,9 @@ fn all_wait_for_the_last() {
     let [one, two, three] = &mut parties[..] else { unreachable!() };
     let (first, second) = (later(one), later(two));
     assert_eq!((first.number(), second.number()), (0, 1));
-    let first = first.poll().err().expect("one is still to come");
+    let first = first.poll().expect_err("one is still to come");
     assert!(goes_through(three));
-    let one = first.poll().ok().expect("all have arrived");
+    let one = first.poll().expect("all have arrived");
     assert_eq!(second.cancel().0, PartyEnd::TooLate);
     // The barrier is for one time.
     assert_eq!(one.arrive().err(), Some(ArriveError::Over));
@@ -78,12 +79,16 @@ fn worn() {
 
 #[test]
 fn sizes_out_of_range() {
-    let sizes = |parties, limit| Barrier::new(BarrierConfig { parties, limit }).err();
-    assert_eq!(sizes(0, 1), Some(MakeError::BadConfig));
-    assert_eq!(sizes(32, 1), Some(MakeError::BadConfig));
-    assert_eq!(sizes(1, 0), Some(MakeError::BadConfig));
-    assert_eq!(sizes(1, 1_048_577), Some(MakeError::BadConfig));
-    assert_eq!(sizes(31, 1), None);
+    let sizes = |parties, limit| match Barrier::new(BarrierConfig { parties, limit }) {
+        Err(MakeError::BadConfig(number)) => number.name(),
+        Err(MakeError::Memory) => "memory",
+        Ok(_) => "",
+    };
+    assert_eq!(sizes(0, 1), "parties");
+    assert_eq!(sizes(32, 1), "parties");
+    assert_eq!(sizes(1, 0), "limit");
+    assert_eq!(sizes(1, 1_048_577), "limit");
+    assert_eq!(sizes(31, 1), "");
 }
 
 #[test]

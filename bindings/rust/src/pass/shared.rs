@@ -1,50 +1,31 @@
 //! What the passes of a primitive share.
 
-use crate::errors::{Crowded, MakeError};
+use crate::errors::{MakeError, expect_in};
 use crate::ffi;
-use std::ptr;
+use crate::pass::PassError;
+use crate::primitive::Primitive;
 use std::sync::atomic::{AtomicU32, Ordering};
 
 /// A primitive of the library, and which of its passes nobody has.
+#[derive(Debug)]
 pub(crate) struct Shared {
-    raw: *mut ffi::Raw,
+    primitive: Primitive,
     /// A bit for each pass that was made and that nobody has.
     idle: AtomicU32,
 }
 
-// SAFETY: the library's calls may be made by any thread at any time (bindings/c/cqs.h), and the
-// primitive is freed once, by the last owner.
-unsafe impl Send for Shared {}
-// SAFETY: as above.
-unsafe impl Sync for Shared {}
-
 impl Shared {
     /// The primitive of this kind, with so many passes, each of which has one wait at most.
-    pub(crate) fn new(
-        kind: u32,
-        size: u32,
-        passes: u32,
-        limit: u64,
-    ) -> Result<Shared, MakeError> {
-        if passes == 0 || passes > 31 {
-            return Err(MakeError::BadConfig);
-        }
-        let mut raw = ptr::null_mut();
+    pub(crate) fn new(kind: u32, size: u32, passes: u32, limit: u64) -> Result<Shared, MakeError> {
+        expect_in(1..=31, "passes", passes.into())?;
         // One pass more: pass 0 makes the others, and is nobody's.
-        // SAFETY: `raw` is room for a pointer.
-        let answer = unsafe { ffi::cqs_new(kind, size, passes + 1, limit, 1, &mut raw) };
-        match answer {
-            ffi::NEW => Ok(Shared { raw, idle: AtomicU32::new(0) }),
-            ffi::BAD_CONFIG => Err(MakeError::BadConfig),
-            ffi::MEMORY => Err(MakeError::Memory),
-            other => unreachable!("cqs_new answered {other}"),
-        }
+        let primitive = Primitive::new(kind, size, passes + 1, limit, 1)?;
+        Ok(Shared { primitive, idle: AtomicU32::new(0) })
     }
 
     /// One call.
     pub(crate) fn call(&self, what: u32, pass: u32, number: u64) -> ffi::Answer {
-        // SAFETY: `raw` came from `cqs_new`, and is there as long as `self` is.
-        unsafe { ffi::cqs_call(self.raw, what, pass, number) }
+        self.primitive.call(what, pass, number)
     }
 
     /// Goes on with what the pass owes, to the end.
@@ -54,12 +35,12 @@ impl Shared {
 
     /// A pass, for one caller: one that another caller gave up, or a new one. Where another thread
     /// makes one just now, it yields to it, and tries again.
-    pub(crate) fn pass(&self) -> Result<u32, Crowded> {
+    pub(crate) fn pass(&self) -> Result<u32, PassError> {
         self.pass_with(0)
     }
 
     /// The same, of a barrier: the pass has so many parties.
-    pub(crate) fn pass_with(&self, parties: u64) -> Result<u32, Crowded> {
+    pub(crate) fn pass_with(&self, parties: u64) -> Result<u32, PassError> {
         loop {
             if let Some(number) = self.take_idle() {
                 return Ok(number);
@@ -67,7 +48,9 @@ impl Shared {
             let made = self.call(ffi::DO_SPLIT, 0, parties);
             match made.answer {
                 ffi::MADE => return Ok(made.number as u32),
-                ffi::CROWD | ffi::MEMORY | ffi::NO_PARTY => return Err(Crowded),
+                // Of a barrier the library says of a party what it says of a permit.
+                ffi::CROWD | ffi::NO_PERMIT => return Err(PassError::Crowded),
+                ffi::MEMORY => return Err(PassError::Memory),
                 ffi::IN_USE => std::thread::yield_now(),
                 other => unreachable!("a split was answered {other}"),
             }
@@ -91,15 +74,5 @@ impl Shared {
     /// A pass comes back that nobody has any more.
     pub(crate) fn put_idle(&self, number: u32) {
         self.idle.fetch_or(1 << number, Ordering::AcqRel);
-    }
-}
-
-impl Drop for Shared {
-    fn drop(&mut self) {
-        // SAFETY: `raw` came from `cqs_new`, is ended once, and nobody has a pass of it.
-        unsafe {
-            ffi::cqs_end(self.raw);
-            ffi::free(self.raw.cast());
-        }
     }
 }

@@ -1,6 +1,8 @@
 //! Calls by chance, each compared with a plain semaphore: a number of free permits and a line.
 
-use cqs::{Acquired, Cancelled, Config, Pass, Permit, Semaphore, TryError, Wait};
+use cqs::pass::{
+    Acquired, Cancelled, Permit, Semaphore, SemaphoreConfig, SemaphorePass, TryError, Wait,
+};
 use std::collections::VecDeque;
 
 /// The plain semaphore. Callers are numbers.
@@ -35,7 +37,7 @@ impl Model {
 }
 
 enum Caller {
-    Idle(&'static mut Pass),
+    Idle(&'static mut SemaphorePass),
     Holds(Permit<'static>),
     Waits(Wait<'static>),
 }
@@ -54,7 +56,8 @@ impl Chance {
 
 fn run(seed: u64, permits: u32, callers: usize, calls: usize) {
     let limit = 1_048_576;
-    let semaphore = Semaphore::new(Config { permits, limit, ..Config::default() }).unwrap();
+    let semaphore =
+        Semaphore::new(SemaphoreConfig { permits, limit, ..SemaphoreConfig::default() }).unwrap();
     let mut chance = Chance(seed);
     let mut model = Model {
         free: permits as usize,
@@ -77,12 +80,12 @@ fn run(seed: u64, permits: u32, callers: usize, calls: usize) {
                     Caller::Idle(pass)
                 }
                 1 if model.free > 0 => {
-                    let permit = pass.try_acquire().ok().expect(&place);
+                    let permit = pass.try_acquire().expect(&place);
                     model.free -= 1;
                     Caller::Holds(permit)
                 }
                 1 => {
-                    let at: *mut Pass = pass;
+                    let at: *mut SemaphorePass = pass;
                     assert_eq!(pass.try_acquire().err(), Some(TryError::NoneFree), "{place}");
                     // SAFETY: the try has ended, and the pass lives for ever.
                     Caller::Idle(unsafe { &mut *at })

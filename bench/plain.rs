@@ -387,7 +387,7 @@ fn run_and_mark(plan: &Plan) -> (String, usize) {
 /// From this suspend counter on no caller draws a number.
 const LIMIT: u64 = 1 << 20;
 
-/// Words that change often stand 16 apart, and the cells stand after them, as in the running queue.
+/// Words that change often stand 16 apart, as in the running queue. The cells stand after them in a row.
 const SUSPENDS: usize = 16;
 const RESUMES: usize = 32;
 const STATE: usize = 48;

@@ -45,6 +45,11 @@ impl Bench {
         Bench { rounds, runs }
     }
 
+    /// One of so many rounds and runs.
+    pub fn of(rounds: u64, runs: u32) -> Bench {
+        Bench { rounds, runs }
+    }
+
     /// Prints a row of rounds that one thread makes. `make` has them made, and clocks them.
     pub fn alone(&self, peer: &str, word: &str, make: impl Fn(u64) -> u64) {
         self.row(peer, word, 1, self.rounds, make);
@@ -87,7 +92,8 @@ impl Bench {
         });
     }
 
-    fn row(&self, peer: &str, word: &str, threads: u64, count: u64, run: impl Fn(u64) -> u64) {
+    /// Prints a row of so many rounds.
+    pub fn row(&self, peer: &str, word: &str, threads: u64, count: u64, run: impl Fn(u64) -> u64) {
         let mut each: Vec<f64> = (0..self.runs).map(|_| run(count) as f64 / count as f64).collect();
         each.sort_by(f64::total_cmp);
         let (best, median, worst) = (each[0], each[each.len() / 2], each[each.len() - 1]);

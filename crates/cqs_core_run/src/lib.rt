@@ -10,4 +10,4 @@ mod runnable;
 mod table;
 mod whole_calls;
 
-pub use runnable::Core;
+pub use runnable::{Core, Outcomes};

@@ -4,13 +4,16 @@ ghost use Rattle.std.specs.Prelude.{◌≡◌, ◌+◌, ◌<◌, ◌≤◌, Err,
 ghost use Rattle.cqs_core.specs.SemaphoreAnswers.{Makes, MakesReady, Opens};
 ghost use Rattle.cqs_core.specs.SemaphoreCalls.{MakesCall, MakesCallReady, course};
 ghost use Rattle.cqs_core.specs.SemaphoreEntries.{object_after, IsBalanced, IsLegal};
-ghost use Rattle.cqs_core.specs.SemaphoreShown.{Shows, shown_semaphore};
+ghost use Rattle.cqs_core.specs.SemaphoreShown.{IsCore, Shows, shown_semaphore};
 ghost use Rattle.cqs_core.specs.SemaphoreTable.{step};
 ghost use Rattle.cqs_core.specs.Resting.{IsIdle, IsResting};
 ghost use Rattle.cqs_core.specs.SoleCaller.{IsSoleCall, IsSoleRefusal, NoneTaken, ShowsNext, TellsWait};
 
+mod events;
+
 use crate::table::Table;
 use cqs_core::{Call, CoreCell, CoreError, Doing, Entry, Event, Outcome, Reply};
+pub use events::Outcomes;
 use std::alloc::Global;
 use std::marker::Model;
 
@@ -169,6 +172,15 @@ impl Core {
         ensures { result ≡ slice_get self.now.shape.held pass }
     {
         self.table.held(pass)
+    }
+
+    /// Every core is one: its history is legal, and it shows the semaphore after it.
+    fn is_core(&self)
+        ensures core { IsCore self.now.shape }
+        ensures shows { Shows self.now.shape
+            (object_after self.now.shape.permits self.now.shape.history) }
+    {
+        let _ = &self.table;
     }
 
     /// The entries that its events have made so far, oldest first.

@@ -1,5 +1,5 @@
 #!/usr/bin/env python3
-"""Writes data/random.schedules and data/histories.schedules.
+"""Writes data/random.schedules and data/histories.schedules, and prints the line of stdout on stalls.
 
 It has the table of events on plain lists, and a semaphore with its line as anybody would write it down, and knows
 nothing of the crates. Each entry that the table appends is replayed on the semaphore, which must allow it, and must
@@ -258,5 +258,33 @@ def histories():
             yield f"entry {place}: {told(*entry)}"
 
 
+def stalls(name):
+    """Counts the stalls of the schedules of a file: each pass stalls at each place, so that its events from there on come
+    behind all others, and what may not come then is left out. At each end the permits must all be there."""
+    schedules = []
+    for line in (DATA / name).read_text().splitlines():
+        words = [] if line.startswith("=== ") else line.split(": ")[0].split(" ")
+        if words[:1] == ["core"]:
+            schedules.append((int(words[1]), int(words[2]), []))
+        elif words and words[0] in VERBS:
+            schedules[-1][2].append((words[0], int(words[1]), int((words + ["0"])[2])))
+    cases = left_out = 0
+    for permits, passes, schedule in schedules:
+        for pass_, place in ((p, at) for p in range(passes) for at in range(len(schedule))):
+            is_late = [at >= place and event[1] == pass_ for at, event in enumerate(schedule)]
+            order = sorted(range(len(schedule)), key=lambda at: is_late[at])
+            table, semaphore = Table(permits), Semaphore(permits)
+            for at in order:
+                made = table.step(*schedule[at])
+                left_out += made is None
+                for entry in made[1] if made else []:
+                    semaphore.replay(*entry)
+            assert semaphore.free + semaphore.way + semaphore.held == permits
+            assert semaphore.state() == table.state
+            cases += 1
+    return f"stalls: {len(schedules)} schedules, {cases} cases, {left_out} events left out, 0 failed"
+
+
 (DATA / "random.schedules").write_text("\n".join(random_schedules()) + "\n")
 (DATA / "histories.schedules").write_text("\n".join(histories()) + "\n")
+print(stalls("schedules.schedules"))

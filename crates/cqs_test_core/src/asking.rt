@@ -7,7 +7,7 @@ use std::alloc::{AllocError, Global};
 use std::fmt::Debug;
 
 /// An event of a pass, by its name.
-fn event_of(verb: &str, pass: u32, wait: u64) -> Option<Event> {
+pub fn event_of(verb: &str, pass: u32, wait: u64) -> Option<Event> {
     Some(match verb {
         "take" => Event::Take { pass },
         "try_load" => Event::TryLoad { pass },
@@ -74,10 +74,10 @@ fn state_of(
 
 /// What a line asks: by its word, and by two numbers.
 #[derive(Clone, Copy)]
-struct Question<'a> {
-    verb: &'a str,
-    first: u32,
-    second: u32,
+pub struct Question<'a> {
+    pub verb: &'a str,
+    pub first: u32,
+    pub second: u32,
 }
 
 /// A number of a question; none is 0.
@@ -86,7 +86,7 @@ fn number_of(word: Option<&str>) -> anyhow::Result<u32> {
 }
 
 /// The question of these words.
-fn question_of<'a>(text: &'a str) -> anyhow::Result<Question<'a>> {
+pub fn question_of<'a>(text: &'a str) -> anyhow::Result<Question<'a>> {
     let mut words = text.split(' ');
     Ok(Question {
         verb: words.next().unwrap_or(""),

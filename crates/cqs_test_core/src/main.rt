@@ -13,12 +13,16 @@
 //! | `state`, `suspends`, `resumes` | the state word, the counters |
 //! | `cell 5`, `doing 0`, `held 0` | the state of a cell; what a pass does, and what it holds |
 //! | `entries`, `entry 0` | how many entries the history has; one of them |
+//!
+//! At the end each pass of each of the worked schedules stalls at each place of it (`stalls`).
 #![tactic(auto)]
 
 mod asking;
+mod stalls;
 mod texts;
 
 use crate::asking::answer;
+use crate::stalls::try_stalls;
 use cqs_core_run::Core;
 use std::alloc::Global;
 use std::fs;
@@ -26,6 +30,9 @@ use std::rt::Files;
 
 /// The files of schedules, each of which ends with `.schedules`.
 const FILES: [&str; 4] = ["sizes", "schedules", "random", "histories"];
+
+/// The file of those in which each pass stalls at each place.
+const STALLING: &str = "schedules";
 
 /// How many lines of a file were asked, and how many weren't answered as they should be.
 #[derive(Clone, Copy, Default)]
@@ -112,5 +119,7 @@ fn main(rt: HostRuntime) -> anyhow::Result<()> {
     for name in FILES {
         run_file(&rt, name)?;
     }
+    let text = read(&rt, STALLING)?;
+    println!(rt; "{}", try_stalls(rt.alloc(), text.as_str())?)?;
     Ok(())
 }

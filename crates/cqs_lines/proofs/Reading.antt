@@ -6,7 +6,11 @@ use Rattle.cqs_lines.proofs.Texts.{lacks-append, lacks-not, cut-unique, decimal-
 
 tail-whole : (ns : List ℕ) → AreFit ns → Lacks 10 (tail_text ns)
 tail-whole [] fit = tt
-tail-whole (n ∷ ns) fit = ((λ e. omega (arith, e)), lacks-append 10 (decimal n) (tail_text ns) (decimal-lacks 10 n (omega arith) fit.0) (tail-whole ns fit.1))
+tail-whole (n ∷ ns) fit = (
+  (λ e. omega (arith, e)),
+  lacks-append 10 (decimal n) (tail_text ns)
+      (decimal-lacks 10 n (omega arith) fit.0) (tail-whole ns fit.1),
+)
 
 pub line-whole : (s : Said) → IsLine s → Lacks 10 (said_text s)
 line-whole s line = lacks-append 10 s.verb (tail_text s.numbers) line.whole (tail-whole s.numbers line.fit)
@@ -55,7 +59,8 @@ module _ {X : Type 0} (says : X → Said) (fits : X → Type 0) where
   }
 
   -- the item that a line says is the item of what was heard
-  pub heard-item : (line verb ns : List ℕ) (r : Option X) → ((i : X) → fits i → IsLine (says i)) → IsSaid line (said verb ns)
+  pub heard-item : (line verb ns : List ℕ) (r : Option X) → ((i : X) → fits i → IsLine (says i))
+      → IsSaid line (said verb ns)
       → MatchOption r ((i : X) → fits i → says i ≢ said verb ns) (λ i. fits i × (says i ≡ said verb ns))
       → MatchOption r ((i : X) → fits i → line ≢ said_text (says i)) (λ i. fits i × (line ≡ said_text (says i)))
   heard-item line verb ns None clean is h = λ i fit same.
@@ -63,12 +68,14 @@ module _ {X : Type 0} (says : X → Said) (fits : X → Type 0) where
   heard-item line verb ns (Some i) clean is h = (h.0, is.text ∙ ap said_text (sym h.1))
 
   -- nothing is left
-  pub through-ends : (text rest : List ℕ) (items : List X) → IsThrough text items rest → length rest ≡ 0 → AreItems says fits items text
+  pub through-ends : (text rest : List ℕ) (items : List X) → IsThrough text items rest → length rest ≡ 0
+      → AreItems says fits items text
   through-ends text [] items way none = record { fit = way.fit; text_is = way.text_is }
   through-ends text (b ∷ rest) items way none = absurd (omega (arith, none))
 
   -- and where a line is wrong
-  pub through-bad : (text rest : List ℕ) (items : List X) (first n : ℕ) → IsThrough text items rest → n ≡ first + length items → 0 < length rest
+  pub through-bad : (text rest : List ℕ) (items : List X) (first n : ℕ) → IsThrough text items rest
+      → n ≡ first + length items → 0 < length rest
       → ((i : X) (more : List ℕ) → fits i → rest ≢ line_text (says i) more) → IsFirstBad says fits text first n
   through-bad text rest items first n way number some bad = record {
     items = items;

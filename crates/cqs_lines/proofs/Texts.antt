@@ -42,7 +42,8 @@ tail-cut m ks rest fit same = rest_of 32 32 rest (decimal m ++ tail_text ks) sam
 pub tail-append : (ns ks : List ℕ) → tail_text (ns ++ ks) ≡ tail_text ns ++ tail_text ks
 tail-append [] ks = refl
 tail-append (n ∷ ns) ks =
-    ap (λ t. 32 ∷ (decimal n ++ t)) (tail-append ns ks) ∙ ap (λ t. 32 ∷ t) (sym (append_assoc (decimal n) (tail_text ns) (tail_text ks)))
+    ap (λ t. 32 ∷ (decimal n ++ t)) (tail-append ns ks)
+    ∙ ap (λ t. 32 ∷ t) (sym (append_assoc (decimal n) (tail_text ns) (tail_text ks)))
 
 pub fit-append : (ns ks : List ℕ) → AreFit ns → AreFit ks → AreFit (ns ++ ks)
 fit-append [] ks front back = back
@@ -60,15 +61,18 @@ midway-start text = record { so_far = refl; fit = tt; all = λ ns fit same. (ns,
 
 -- what the first number of a text is, where the text is cut
 pub first-word : (ks rest word after : List ℕ) → AreFit ks → 32 ∷ rest ≡ tail_text ks → IsCut 32 rest word after
-    → (m : ℕ) × (more : List ℕ) × (ks ≡ m ∷ more) × (m < 2 ^ 64) × AreFit more × (word ≡ decimal m) × (32 ∷ after ≡ tail_text more)
+    → (m : ℕ) × (more : List ℕ) × (ks ≡ m ∷ more) × (m < 2 ^ 64) × AreFit more × (word ≡ decimal m)
+    × (32 ∷ after ≡ tail_text more)
 first-word [] rest word after fit same is = absurd (cc same)
 first-word (m ∷ []) rest word after fit same is =
     let text : rest ≡ decimal m = tail-cut m [] rest fit.0 same ∙ append-nil (decimal m) in
-    absurd (lacks-not 32 word after (subst (λ t. Lacks 32 t) (sym text ∙ is.joined) (decimal-lacks 32 m (omega arith) fit.0)))
+    absurd (lacks-not 32 word after (subst (λ t. Lacks 32 t) (sym text
+    ∙ is.joined) (decimal-lacks 32 m (omega arith) fit.0)))
 first-word (m ∷ n ∷ more) rest word after fit same is =
     let text : rest ≡ decimal m ++ tail_text (n ∷ more) = tail-cut m (n ∷ more) rest fit.0 same in
-    let parts = cut-unique 32 word after (decimal m) (decimal n ++ tail_text more) is.first (decimal-lacks 32 m (omega arith) fit.0)
-        (sym is.joined ∙ text) in
+    let parts = cut-unique 32 word after (decimal m) (decimal n ++ tail_text more) is.first
+    (decimal-lacks 32 m (omega arith) fit.0)
+    (sym is.joined ∙ text) in
     (m, n ∷ more, refl, fit.0, fit.1, parts.0, ap (λ t. 32 ∷ t) parts.1)
 
 pub midway-next : (text numbers rest word after : List ℕ) (n : ℕ) → Midway text numbers rest → IsCut 32 rest word after
@@ -82,11 +86,13 @@ midway-next text numbers rest word after n mid is value low = record {
   all = λ ns fit same.
       let ks = mid.all ns fit same in
       let word_is = first-word ks.0 rest word after ks.1 ks.3 is in
-      let here : word_is.0 ≡ n = decimal_injective word_is.0 n word_is.3 low (sym word_is.5 ∙ value) in
-      (word_is.1, word_is.4,
+      let here : word_is.0 ≡ n = decimal_injective word_is.0 n word_is.3 low (sym word_is.5 ∙ value) in (
+        word_is.1,
+        word_is.4,
         ks.2 ∙ ap (λ l. numbers ++ l) (word_is.2 ∙ ap (λ m. m ∷ word_is.1) here)
-        ∙ sym (append_assoc numbers (n ∷ []) word_is.1),
-        word_is.6);
+            ∙ sym (append_assoc numbers (n ∷ []) word_is.1),
+        word_is.6,
+      );
 }
   where
     one : tail_text numbers ++ 32 ∷ decimal n ≡ tail_text numbers ++ tail_text (n ∷ [])
@@ -106,12 +112,13 @@ last-word [] rest fit same lacks = absurd (cc same)
 last-word (m ∷ []) rest fit same lacks = (m, fit.0, tail-cut m [] rest fit.0 same ∙ append-nil (decimal m))
 last-word (m ∷ n ∷ more) rest fit same lacks =
     absurd (lacks-not 32 (decimal m) (decimal n ++ tail_text more)
-      (subst (λ t. Lacks 32 t) (tail-cut m (n ∷ more) rest fit.0 same) lacks))
+    (subst (λ t. Lacks 32 t) (tail-cut m (n ∷ more) rest fit.0 same) lacks))
 
 pub midway-last : (text numbers rest : List ℕ) (n : ℕ) → Midway text numbers rest → rest ≡ decimal n → n < 2 ^ 64
     → Hears text (Some (numbers ++ n ∷ []))
 midway-last text numbers rest n mid value low = (
-  mid.so_far ∙ ap (λ t. tail_text numbers ++ 32 ∷ t) (value ∙ sym (append-nil (decimal n))) ∙ sym (tail-append numbers (n ∷ [])),
+  mid.so_far ∙ ap (λ t. tail_text numbers ++ 32 ∷ t) (value ∙ sym (append-nil (decimal n)))
+      ∙ sym (tail-append numbers (n ∷ [])),
   fit-append numbers (n ∷ []) mid.fit (low, tt),
   omega (arith, length-append numbers (n ∷ [])),
 )
@@ -130,21 +137,23 @@ tail-unique [] (m ∷ ms) first second same = absurd (cc same)
 tail-unique (n ∷ ns) [] first second same = absurd (cc same)
 tail-unique (n ∷ []) (m ∷ []) first second same =
     ap (λ k. k ∷ []) (decimal_injective n m first.0 second.0
-      (sym (append-nil (decimal n)) ∙ rest_of 32 32 (decimal n ++ []) (decimal m ++ []) same ∙ append-nil (decimal m)))
+    (sym (append-nil (decimal n)) ∙ rest_of 32 32 (decimal n ++ []) (decimal m ++ []) same ∙ append-nil (decimal m)))
 tail-unique (n ∷ []) (m ∷ k ∷ ms) first second same =
     let text : decimal n ≡ decimal m ++ tail_text (k ∷ ms)
-        = sym (append-nil (decimal n)) ∙ rest_of 32 32 (decimal n ++ []) (decimal m ++ tail_text (k ∷ ms)) same in
-    absurd (lacks-not 32 (decimal m) (decimal k ++ tail_text ms) (subst (λ t. Lacks 32 t) text (decimal-lacks 32 n (omega arith) first.0)))
+    = sym (append-nil (decimal n)) ∙ rest_of 32 32 (decimal n ++ []) (decimal m ++ tail_text (k ∷ ms)) same in
+    absurd (lacks-not 32 (decimal m) (decimal k ++ tail_text ms)
+    (subst (λ t. Lacks 32 t) text (decimal-lacks 32 n (omega arith) first.0)))
 tail-unique (n ∷ k ∷ ns) (m ∷ []) first second same =
     let text : decimal m ≡ decimal n ++ tail_text (k ∷ ns)
-        = sym (append-nil (decimal m)) ∙ sym (rest_of 32 32 (decimal n ++ tail_text (k ∷ ns)) (decimal m ++ []) same) in
-    absurd (lacks-not 32 (decimal n) (decimal k ++ tail_text ns) (subst (λ t. Lacks 32 t) text (decimal-lacks 32 m (omega arith) second.0)))
+    = sym (append-nil (decimal m)) ∙ sym (rest_of 32 32 (decimal n ++ tail_text (k ∷ ns)) (decimal m ++ []) same) in
+    absurd (lacks-not 32 (decimal n) (decimal k ++ tail_text ns)
+    (subst (λ t. Lacks 32 t) text (decimal-lacks 32 m (omega arith) second.0)))
 tail-unique (n ∷ k ∷ ns) (m ∷ l ∷ ms) first second same =
     let parts = cut-unique 32 (decimal n) (decimal k ++ tail_text ns) (decimal m) (decimal l ++ tail_text ms)
-        (decimal-lacks 32 n (omega arith) first.0) (decimal-lacks 32 m (omega arith) second.0)
-        (rest_of 32 32 (decimal n ++ tail_text (k ∷ ns)) (decimal m ++ tail_text (l ∷ ms)) same) in
+    (decimal-lacks 32 n (omega arith) first.0) (decimal-lacks 32 m (omega arith) second.0)
+    (rest_of 32 32 (decimal n ++ tail_text (k ∷ ns)) (decimal m ++ tail_text (l ∷ ms)) same) in
     ap₂ (λ x xs. x ∷ xs) (decimal_injective n m first.0 second.0 parts.0)
-      (tail-unique (k ∷ ns) (l ∷ ms) first.1 second.1 (ap (λ t. 32 ∷ t) parts.1))
+    (tail-unique (k ∷ ns) (l ∷ ms) first.1 second.1 (ap (λ t. 32 ∷ t) parts.1))
 
 -- a line with no space says nothing
 pub spaceless : (line : List ℕ) (s : Said) → Lacks 32 line → IsSaid line s → ⊥
@@ -162,7 +171,8 @@ said-cut line verb rest s cut is = go s.numbers is.text is.some
     go : (ns : List ℕ) → line ≡ s.verb ++ tail_text ns → 0 < length ns → (s.verb ≡ verb) × (32 ∷ rest ≡ tail_text ns)
     go [] same some = absurd (omega (arith, some))
     go (n ∷ ns) same some =
-        let parts = cut-unique 32 s.verb (decimal n ++ tail_text ns) verb rest is.verb cut.first (sym same ∙ cut.joined) in
+        let parts = cut-unique 32 s.verb (decimal n ++ tail_text ns) verb rest is.verb cut.first (sym same
+        ∙ cut.joined) in
         (parts.0, ap (λ t. 32 ∷ t) (sym parts.1))
 
 pub unheard : (line verb rest : List ℕ) → IsCut 32 line verb rest → Hears rest None → (s : Said) → ¬ IsSaid line s
@@ -187,11 +197,13 @@ said-unique line s t first second = go s.numbers first.text first.some
         let cut : IsCut 32 line s.verb (decimal n ++ tail_text ns) = record { joined = same; first = first.verb } in
         let mine = said-cut line s.verb (decimal n ++ tail_text ns) s cut first in
         let theirs = said-cut line s.verb (decimal n ++ tail_text ns) t cut second in
-        let numbers : s.numbers ≡ t.numbers = tail-unique s.numbers t.numbers first.fit second.fit (sym mine.1 ∙ theirs.1) in
+        let numbers : s.numbers ≡ t.numbers =
+        tail-unique s.numbers t.numbers first.fit second.fit (sym mine.1 ∙ theirs.1) in
         ap₂ (λ v ms. record { verb = v; numbers = ms }) (sym theirs.0) numbers
 
 -- where no byte is the one that was looked for
-pub nowhere-lacks : (at : ℕ) (bytes : List ℕ) → ((k : ℕ) → k < length bytes → (slice_index bytes k == at) ≡ true → ⊥) → Lacks at bytes
+pub nowhere-lacks : (at : ℕ) (bytes : List ℕ) → ((k : ℕ) → k < length bytes → (slice_index bytes k == at) ≡ true → ⊥)
+    → Lacks at bytes
 nowhere-lacks at [] none = tt
 nowhere-lacks at (b ∷ bytes) none =
     ((λ e. none 0 (omega arith) (eq-eqb b at e)), nowhere-lacks at bytes (λ k low. none (suc k) (omega (arith, low))))
@@ -206,7 +218,8 @@ place-cut at (b ∷ bytes) zero (suc n) next low none here =
     let zero_is : n ≡ 0 = omega (arith, next) in
     record { joined = ap₂ (λ x xs. x ∷ xs) (eqb-true b at here) (rw zero_is refl); first = tt }
 place-cut at (b ∷ bytes) (suc place) (suc n) next low none here =
-    let rest = place-cut at bytes place n (omega (arith, next)) (omega (arith, low)) (λ k small. none (suc k) (omega (arith, small))) here in
+    let rest = place-cut at bytes place n (omega (arith, next)) (omega (arith, low))
+    (λ k small. none (suc k) (omega (arith, small))) here in
     record {
       joined = ap (λ t. b ∷ t) rest.joined;
       first = ((λ e. none 0 (omega arith) (eq-eqb b at e)), rest.first);

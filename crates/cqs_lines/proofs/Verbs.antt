@@ -1,5 +1,5 @@
 -- Verbs that are known: a test of their bytes, and the lines that they make.
-use Rattle.std.proofs.Common.{◌≡◌, ◌≢◌, ◌⊎◌, inl, inr, ℕ, ◌==◌, ◌<◌, ◌^◌, Bool, true, false, true≢false, List, [], ◌∷◌, length, refl, sym, ap, ◌∙◌, arith, eq-eqb, ne_eqb, if◌then◌else◌}
+use Rattle.std.proofs.Common.{◌≡◌, ◌≢◌, ◌⊎◌, inl, inr, ℕ, ◌==◌, ◌<◌, ◌≤◌, ◌^◌, Bool, true, false, true≢false, List, [], ◌∷◌, length, refl, sym, ap, ◌∙◌, arith, eq-eqb, ne_eqb, if◌then◌else◌}
 use Rattle.std.proofs.lemmas.Bool.{cases_eq}
 use Rattle.cqs_lines.specs.Said.{Lacks, IsLine, said}
 
@@ -21,7 +21,8 @@ lacks-true at (b ∷ bs) passes = go (cases_eq b at) (λ more. lacks-true at bs 
         (other, onward (sym rest ∙ passes))
 
 -- a line of a verb with one number of 32 bits, and with one more of 40 bits
-pub line-one : (verb : List ℕ) (p : ℕ) → lacks 32 verb ≡ true → lacks 10 verb ≡ true → p < 2 ^ 32 → IsLine (said verb (p ∷ []))
+pub line-one : (verb : List ℕ) (p : ℕ) → lacks 32 verb ≡ true → lacks 10 verb ≡ true → p < 2 ^ 32
+    → IsLine (said verb (p ∷ []))
 line-one verb p spaces feeds low = record {
   spaceless = lacks-true 32 verb spaces;
   whole = lacks-true 10 verb feeds;
@@ -35,5 +36,34 @@ line-two verb p k spaces feeds low small = record {
   spaceless = lacks-true 32 verb spaces;
   whole = lacks-true 10 verb feeds;
   fit = (omega (arith, low), (omega (arith, small), tt));
+  some = omega arith;
+}
+
+-- a line of a verb with one number of 40 bits
+pub line-wait : (verb : List ℕ) (k : ℕ) → lacks 32 verb ≡ true → lacks 10 verb ≡ true → k < 2 ^ 40
+    → IsLine (said verb (k ∷ []))
+line-wait verb k spaces feeds small = record {
+  spaceless = lacks-true 32 verb spaces;
+  whole = lacks-true 10 verb feeds;
+  fit = (omega (arith, small), tt);
+  some = omega arith;
+}
+
+-- a line of a verb with the number of permits, and with that of passes
+pub line-permits : (verb : List ℕ) (p : ℕ) → lacks 32 verb ≡ true → lacks 10 verb ≡ true → p ≤ 1048576
+    → IsLine (said verb (p ∷ []))
+line-permits verb p spaces feeds low = record {
+  spaceless = lacks-true 32 verb spaces;
+  whole = lacks-true 10 verb feeds;
+  fit = (omega (arith, low), tt);
+  some = omega arith;
+}
+
+pub line-passes : (verb : List ℕ) (p n : ℕ) → lacks 32 verb ≡ true → lacks 10 verb ≡ true → p ≤ 1048576 → n ≤ 32
+    → IsLine (said verb (p ∷ n ∷ []))
+line-passes verb p n spaces feeds low few = record {
+  spaceless = lacks-true 32 verb spaces;
+  whole = lacks-true 10 verb feeds;
+  fit = (omega (arith, low), (omega (arith, few), tt));
   some = omega arith;
 }

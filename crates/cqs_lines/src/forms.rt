@@ -69,7 +69,7 @@ fn line_item<F: Form>(alloc: Global, form: &F, line: &[u8]) -> Result<Option<F::
 }
 
 /// The item of the first line, and the lines behind it.
-fn next_item<'a, F: Form>(
+pub fn next_item<'a, F: Form>(
     alloc: Global,
     form: &F,
     text: &'a [u8],

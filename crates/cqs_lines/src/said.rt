@@ -30,7 +30,8 @@ pub fn hear<'a>(alloc: Global, line: &'a [u8]) -> Result<Option<Heard<'a>>, Allo
 
 /// The numbers that a text has, with one space between two.
 fn hear_numbers(alloc: Global, text: &[u8]) -> Result<Option<Vec<u64>>, AllocError>
-    ensures { IfOk result (λ heard. MatchOption heard (Hears text.now None) (λ ns. Hears text.now (Some ns.items))) }
+    ensures { IfOk result (λ heard. MatchOption heard (Hears text.now None)
+        (λ ns. Hears text.now (Some ns.items))) }
 {
     let mut numbers = Vec::new(alloc);
     let mut rest = text;

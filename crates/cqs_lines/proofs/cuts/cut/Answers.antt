@@ -13,6 +13,6 @@ returns-in-Some c =
     let n = c.in-Some.place + 1 in
     let bytes = c.args.bytes.now in
     let cut = place-cut c.args.at bytes c.in-Some.place n (omega arith) c.in-Some.ensures.0.high
-        (λ k low is. c.in-Some.ensures.0.before k (omega arith) low is) c.in-Some.ensures.1 in
+    (λ k low is. c.in-Some.ensures.0.before k (omega arith) low is) c.in-Some.ensures.1 in
     let whole = take_all (length bytes - n) (drop n bytes) (omega (arith, length-drop n bytes)) in
     rw whole cut

@@ -8,5 +8,6 @@ returns-in_default g c = λ i more fit.
 
 pub returns-in-None : goal.returns-in-None
 returns-in-None g c = λ i more fit same.
-    let parts = first-line _ _ _ more (g.F.Form.says i) (g.met.F.Form.clean c.args.form.now i fit) c.in-Some.ensures same in
+    let parts = first-line _ _ _ more (g.F.Form.says i)
+    (g.met.F.Form.clean c.args.form.now i fit) c.in-Some.ensures same in
     (rw c.in-None.is at c.in_ok-item.ensures) i fit parts.0

@@ -8,7 +8,8 @@ returns-in_default-number c = midway-none _ _ _ _ _ c.words.invariant c.in-Some.
 pub words-preserved : goal.words-preserved
 words-preserved c =
     let pushed : c.push.new.self.items ≡ c.words.numbers.items ++ c.in-Some-number.number ∷ [] = search rules in
-    rw pushed (midway-next _ _ _ _ _ _ c.words.invariant c.in-Some.ensures c.in-Some-number.ensures.0 c.in-Some-number.ensures.1)
+    rw pushed (midway-next _ _ _ _ _ _ c.words.invariant c.in-Some.ensures c.in-Some-number.ensures.0
+    c.in-Some-number.ensures.1)
 
 pub returns-in_default-number-2 : goal.returns-in_default-number-2
 returns-in_default-number-2 c = midway-bad _ _ _ c.words.invariant c.in_default.ensures c.in_default-number-2.ensures

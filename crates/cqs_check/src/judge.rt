@@ -1,0 +1,236 @@
+//! The judge of one entry after the other: it keeps what the plain semaphore is after them.
+
+ghost use Rattle.std.specs.Prelude.{◌≡◌, ◌+◌, ◌<◌, ◌≤◌, ◌^◌, IfOk, ℕ, Some, slice_get};
+ghost use Rattle.cqs_core.specs.declared.entries.Entry.TheVariants as entry;
+ghost use Rattle.cqs_core.specs.SemaphoreObject.{Semaphore, opening};
+ghost use Rattle.cqs_check.specs.declared.waits.WaitState.TheVariants as became;
+ghost use Rattle.cqs_check.specs.Judging.{IsJudge, Judged, Stands, HasRoom, DropsOut, TurnsBack, total_of};
+
+use crate::door::Door;
+use crate::waits::{Table, WaitState};
+use cqs_core::Entry;
+use std::alloc::{AllocError, Global};
+
+/// What the plain semaphore is after the entries so far.
+#[derive(Drop)]
+pub struct Judge {
+    pub free: u32,
+    pub way: u32,
+    pub held: u32,
+    pub in_line: u32,
+    pub door: Door,
+    pub table: Table,
+}
+
+impl Judge {
+    /// A free permit is taken.
+    fn take(&mut self) -> bool
+        requires { IsJudge self.old }
+        ensures now { (c : ℕ) → Judged self.old (entry.TakeNow c) result self.new }
+        ensures tried { (c : ℕ) → Judged self.old (entry.TryGot c) result self.new }
+    {
+        if self.free == 0 {
+            return false;
+        }
+        self.free -= 1;
+        self.held += 1;
+        true
+    }
+
+    /// A try finds none free.
+    fn find_busy(&self) -> bool
+        requires { IsJudge self.now }
+        ensures { (c : ℕ) → Judged self.now (entry.TryBusy c) result self.now }
+    {
+        self.free == 0
+    }
+
+    /// A caller comes to the door.
+    fn come(&mut self, caller: u32) -> Result<bool, AllocError>
+        requires judge { IsJudge self.old }
+        requires few { total_of self.old.door + 1 < 2 ^ 32 }
+        ensures { IfOk result (λ admits. Judged self.old (entry.TakeDoor caller) admits self.new) }
+    {
+        if self.free > 0 {
+            return Ok(false);
+        }
+        self.door.come(caller)?;
+        Ok(true)
+    }
+
+    /// A caller goes from the door to the end of the line.
+    fn enter(&mut self, caller: u32, wait: u64) -> bool
+        requires judge { IsJudge self.old }
+        requires room { HasRoom self.old.table }
+        ensures { Judged self.old (entry.Enter caller wait) result self.new }
+    {
+        if wait != self.table.waits.len() as u64 {
+            return false;
+        }
+        if self.door.many(caller) == 0 {
+            return false;
+        }
+        self.door.go(caller);
+        self.table.enter(caller);
+        self.in_line += 1;
+        true
+    }
+
+    /// How many wait: at the door, and in the line.
+    fn due(&self) -> u64
+        requires { IsJudge self.now }
+        ensures { result ≡ total_of self.now.door + self.now.in_line }
+    {
+        u64::from(self.door.total()) + u64::from(self.in_line)
+    }
+
+    /// A permit is given back, and nobody waits for one.
+    fn give_free(&mut self) -> bool
+        requires { IsJudge self.old }
+        ensures { (c : ℕ) → Judged self.old (entry.GiveFreed c) result self.new }
+    {
+        if self.held == 0 || u64::from(self.way) != self.due() {
+            return false;
+        }
+        self.held -= 1;
+        self.free += 1;
+        true
+    }
+
+    /// A permit is given back, and is on its way to the line.
+    fn give_on(&mut self) -> bool
+        requires { IsJudge self.old }
+        ensures { (c : ℕ) → Judged self.old (entry.GiveSent c) result self.new }
+    {
+        if self.held == 0 || u64::from(self.way) >= self.due() {
+            return false;
+        }
+        self.held -= 1;
+        self.way += 1;
+        true
+    }
+
+    /// A permit on its way reaches a wait.
+    fn deliver(&mut self, wait: u64) -> bool
+        requires { IsJudge self.old }
+        ensures { Judged self.old (entry.Deliver wait) result self.new }
+    {
+        match self.table.among_first(self.way, wait) {
+            Some(caller) => {
+                self.table
+                    .take_out(wait as usize, WaitState::Served(caller));
+                self.in_line -= 1;
+                self.way -= 1;
+                self.held += 1;
+                true
+            }
+            None => false,
+        }
+    }
+
+    /// A caller leaves the line. A permit on its way for which nobody waits then is free again.
+    fn leave(&mut self, caller: u32, wait: u64) -> bool
+        requires { IsJudge self.old }
+        ensures { Judged self.old (entry.Leave caller wait) result self.new }
+    {
+        if !self.table.waits_for(caller, wait) {
+            return false;
+        }
+        self.drop_out(caller, wait);
+        self.turn_back();
+        true
+    }
+
+    /// A wait is in the line no longer.
+    fn drop_out(&mut self, caller: u32, wait: u64)
+        requires judge { IsJudge self.old }
+        requires stands { slice_get self.old.table.waits.items wait ≡ Some (became.Waiting caller) }
+        ensures { DropsOut self.old caller wait self.new }
+    {
+        self.table.take_out(wait as usize, WaitState::Left);
+        self.in_line -= 1;
+    }
+
+    /// A permit on its way is free again, where more are on their way than wait.
+    fn turn_back(&mut self)
+        requires { IsJudge self.old }
+        ensures { TurnsBack self.old self.new }
+    {
+        if u64::from(self.way) <= self.due() {
+            return;
+        }
+        self.way -= 1;
+        self.free += 1;
+    }
+
+    /// A caller looks at its wait, and it still stands in the line.
+    fn look_in_vain(&self, caller: u32, wait: u64) -> bool
+        requires { IsJudge self.now }
+        ensures { Judged self.now (entry.LookPending caller wait) result self.now }
+    {
+        if !self.table.waits_for(caller, wait) {
+            return false;
+        }
+        true
+    }
+
+    /// A caller has what came for its wait.
+    fn collect(&mut self, caller: u32, wait: u64) -> bool
+        requires { IsJudge self.old }
+        ensures granted { Judged self.old (entry.LookGranted caller wait) result self.new }
+        ensures late { Judged self.old (entry.Late caller wait) result self.new }
+    {
+        if !self.table.served_for(caller, wait) {
+            return false;
+        }
+        self.table.change(wait as usize, WaitState::Closed(caller));
+        true
+    }
+
+    /// A judge of a semaphore with all its permits free, with room for so many waits.
+    pub fn new(alloc: Global, permits: u32, most: u32) -> Result<Self, AllocError>
+        requires { permits ≤ 1048576 }
+        ensures { IfOk result (λ j. IsJudge j × Stands j (opening permits)) }
+    {
+        let table = Table::new(alloc, most)?;
+        Ok(Judge {
+            free: permits,
+            way: 0,
+            held: 0,
+            in_line: 0,
+            door: Door::new(alloc),
+            table,
+        })
+    }
+
+    /// Judges one more entry: whether it may come after those so far.
+    pub fn admits(&mut self, entry: Entry) -> Result<bool, AllocError>
+        requires { IsJudge self.old }
+        ensures { IfOk result (λ admits. Judged self.old entry admits self.new) }
+    {
+        match entry {
+            Entry::TakeNow { .. } | Entry::TryGot { .. } => Ok(self.take()),
+            Entry::TryBusy { .. } => Ok(self.find_busy()),
+            Entry::TakeDoor { pass } => {
+                if self.door.total() == u32::MAX {
+                    return Err(AllocError);
+                }
+                self.come(pass)
+            }
+            Entry::Enter { pass, wait } => {
+                if !self.table.has_room() {
+                    return Err(AllocError);
+                }
+                Ok(self.enter(pass, wait))
+            }
+            Entry::GiveFreed { .. } => Ok(self.give_free()),
+            Entry::GiveSent { .. } => Ok(self.give_on()),
+            Entry::Deliver { wait } => Ok(self.deliver(wait)),
+            Entry::Leave { pass, wait } => Ok(self.leave(pass, wait)),
+            Entry::LookPending { pass, wait } => Ok(self.look_in_vain(pass, wait)),
+            Entry::LookGranted { pass, wait } | Entry::Late { pass, wait } => {
+                Ok(self.collect(pass, wait))
+            }
+        }
+    }
+}

@@ -9,7 +9,7 @@ import java.util.concurrent.locks.ReentrantLock;
 
 /**
  * Java's fair semaphore, fair lock and fair queue as a pool, its latch and its barrier. Whoever waits sleeps. The rounds and the rows are
- * those of crates/cqs_bench; so many rounds are made before the first run, for the compiler.
+ * those of crates/cqs_bench_calls; so many rounds are made before the first run, for the compiler.
  */
 public final class Peer {
     /** A round, which may be interrupted. */

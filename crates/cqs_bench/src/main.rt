@@ -1,15 +1,12 @@
 //! Times what the program does with a plan on standard input: the parse of its document, the
 //! reading of the plan, its run, or the reading and the run together, beside a plain fold over the
-//! same parse; and its run by workers. And times the plan of a number, rounds of the running queue,
-//! and rounds of the primitives' calls.
+//! same parse; and its run by workers. And times the plan of a number. Rounds of calls are timed by
+//! `cqs_bench_calls`.
 //!
-//! Each part prints one line, which starts with its word and its nanoseconds; the primitives' calls
-//! have rows of their own.
+//! Each part prints one line, which starts with its word and its nanoseconds.
 #![tactic(auto)]
 
 mod fold;
-mod primitives;
-mod rounds;
 mod words;
 mod work;
 
@@ -21,10 +18,7 @@ use cqs_cli::{CoreFloor, QueueFloor};
 use cqs_plan::{Floor, Plan};
 use cqs_plan_generator::make_plan;
 use cqs_plan_reader::read_plan;
-use cqs_rule::{CancelMode, Config, Queue};
-use cqs_semaphore_client::SemClient;
 use cqs_turns::{Report, run_plan, summarize_plan};
-use rounds::{LIMIT, free_rounds, leave_rounds, pair_rounds};
 use std::alloc::Global;
 use std::env::{self, Args};
 use std::io::Read;
@@ -195,32 +189,6 @@ fn time_number(rt: &(impl Clock + Print + AllocGlobal)) -> anyhow::Result<()> {
     tell_report(rt, "gen", start, summary.as_slice())
 }
 
-/// Rounds of the running queue on a table of its own, which was made before.
-fn time_rounds(
-    rt: &(impl Clock + Print + AllocGlobal),
-    word: &str,
-    count: u64,
-) -> anyhow::Result<()> {
-    let config = Config {
-        passes: 1,
-        limit: LIMIT,
-        slots: 4,
-    };
-    let client = SemClient::new(1);
-    let Ok((queue, mut pass)) = Queue::new(rt.alloc(), config, CancelMode::Smart, client) else {
-        anyhow::bail!("no memory for the queue");
-    };
-    let start = Instant::now(rt)?;
-    match word {
-        "pairs" => pair_rounds(&queue, &mut pass, count),
-        "leaves" => leave_rounds(&queue, &mut pass, count),
-        _ => free_rounds(&queue, &mut pass, count),
-    }
-    let nanoseconds = start.elapsed(rt)?.as_nanos();
-    let numbers = [("rounds", count), ("held", u64::from(pass.held()))];
-    tell(rt, word, nanoseconds, numbers)
-}
-
 /// Times a part of a run on the plan of these bytes.
 fn time_part(
     rt: &(impl Clock + Print + AllocGlobal),
@@ -248,13 +216,6 @@ fn time_input<R: Clock + Print + AllocGlobal, I: Read>(
     time_part(rt, part, &bytes)
 }
 
-/// How many rounds of the running queue these words ask for.
-fn count_of(words: Args) -> u64 {
-    let mut words = words;
-    let wanted = words.next().and_then(|text| text.parse().ok());
-    wanted.unwrap_or(LIMIT)
-}
-
 /// The status of what was measured.
 fn status_of(measured: anyhow::Result<()>) -> anyhow::Result<ExitCode> {
     measured?;
@@ -265,15 +226,12 @@ fn status_of(measured: anyhow::Result<()>) -> anyhow::Result<ExitCode> {
 fn measure<R: Clock + Threads + Wait + Sync + Print + AllocGlobal, I: Read>(
     rt: &R,
     asked: Asked,
-    word: &str,
     words: Args,
     input: &mut I,
 ) -> anyhow::Result<ExitCode> {
     match asked {
         Asked::Part(part) => status_of(time_input(rt, part, input)),
         Asked::Number => status_of(time_number(rt)),
-        Asked::Rounds => status_of(time_rounds(rt, word, count_of(words))),
-        Asked::Primitives => primitives::measure(rt, words),
         Asked::Work => work::measure(rt, words, input),
     }
 }
@@ -284,7 +242,7 @@ fn main(rt: HostRuntime) -> anyhow::Result<ExitCode> {
         return Ok(usage(&rt)?);
     };
     match asked_of(word.as_str()) {
-        Some(asked) => measure(&rt, asked, word.as_str(), words, &mut rt.stdin()),
+        Some(asked) => measure(&rt, asked, words, &mut rt.stdin()),
         None => Ok(usage(&rt)?),
     }
 }

@@ -6,10 +6,6 @@ use std::process::ExitCode;
 
 const USAGE: &str = "usage: cqs_bench toml | plan | run | cores | whole | fold < PLAN\n       \
     cqs_bench gen\n       \
-    cqs_bench free | pairs | leaves [ROUNDS]\n       \
-    cqs_bench primitives free | leave | leave-behind | served | waiting | wake-guarded \
-    | wake-never | mutex-free | pool-free | contended | pool | latch | barrier \
-    [ROUNDS [RUNS]]\n       \
     cqs_bench work WORKERS < PLAN, with 1 to 16 workers";
 
 const BAD_COMMAND: u8 = 2;
@@ -37,10 +33,6 @@ pub enum Asked {
     Part(Part),
     /// The plan of a number.
     Number,
-    /// Rounds of the running queue.
-    Rounds,
-    /// Rounds of the primitives' calls.
-    Primitives,
     /// The run of a plan by workers.
     Work,
 }
@@ -61,8 +53,6 @@ fn part_of(word: &str) -> Option<Part> {
 pub fn asked_of(word: &str) -> Option<Asked> {
     match word {
         "gen" => Some(Asked::Number),
-        "free" | "pairs" | "leaves" => Some(Asked::Rounds),
-        "primitives" => Some(Asked::Primitives),
         "work" => Some(Asked::Work),
         _ => match part_of(word) {
             Some(part) => Some(Asked::Part(part)),

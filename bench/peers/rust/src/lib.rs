@@ -1,4 +1,4 @@
-//! How a round of what people use is timed: the rounds, the threads and the rows are those of `crates/cqs_bench`.
+//! How a round of what people use is timed: the rounds, the threads and the rows are those of `crates/cqs_bench_calls`.
 
 use std::future::Future;
 use std::pin::pin;

@@ -1,6 +1,0 @@
-use Rattle.cqs_bench.specs.Idle.{WaitsAtBarrier}
-use Rattle.cqs_bench.proofs.primitives.barriers.look_on.Given as goal
-
--- between two looks the wait goes on
-abbrev pub invariant-loop-look : goal.invariant-loop-look
-invariant-loop-look l = WaitsAtBarrier l.barrier l.wait l.pass

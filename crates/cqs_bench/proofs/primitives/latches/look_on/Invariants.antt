@@ -1,6 +1,0 @@
-use Rattle.cqs_bench.specs.Idle.{WaitsAtLatch}
-use Rattle.cqs_bench.proofs.primitives.latches.look_on.Given as goal
-
--- between two looks the wait goes on
-abbrev pub invariant-loop-look : goal.invariant-loop-look
-invariant-loop-look l = WaitsAtLatch l.latch l.wait l.pass

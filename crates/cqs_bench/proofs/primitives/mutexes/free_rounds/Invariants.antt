@@ -1,6 +1,0 @@
-use Rattle.cqs_bench.specs.Idle.{IsIdleAtMutex}
-use Rattle.cqs_bench.proofs.primitives.mutexes.free_rounds.Given as goal
-
--- between two rounds the pass is idle
-abbrev pub invariant-loop : goal.invariant-loop
-invariant-loop l = IsIdleAtMutex l.mutex l.pass

@@ -1,6 +1,0 @@
-use Rattle.cqs_bench.specs.Idle.{IsIdleAtPool}
-use Rattle.cqs_bench.proofs.primitives.pools.free_rounds.Given as goal
-
--- between two rounds the pass is idle
-abbrev pub invariant-loop : goal.invariant-loop
-invariant-loop l = IsIdleAtPool l.pool l.pass

@@ -1,6 +1,0 @@
-use Rattle.cqs_semaphore.specs.Callers.{IsIdle}
-use Rattle.cqs_bench.proofs.primitives.rounds.free_rounds.Given as goal
-
--- between two rounds the pass is idle
-abbrev pub invariant-loop : goal.invariant-loop
-invariant-loop l = IsIdle l.semaphore l.pass

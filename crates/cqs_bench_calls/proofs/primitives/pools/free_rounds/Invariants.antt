@@ -1,0 +1,6 @@
+use Rattle.cqs_bench_calls.specs.Idle.{IsIdleAtPool}
+use Rattle.cqs_bench_calls.proofs.primitives.pools.free_rounds.Given as goal
+
+-- between two rounds the pass is idle
+abbrev pub invariant-loop : goal.invariant-loop
+invariant-loop l = IsIdleAtPool l.pool l.pass

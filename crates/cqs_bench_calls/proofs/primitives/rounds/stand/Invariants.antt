@@ -1,0 +1,6 @@
+use Rattle.cqs_semaphore.specs.Callers.{IsIdle}
+use Rattle.cqs_bench_calls.proofs.primitives.rounds.stand.Given as goal
+
+-- between two rounds the pass is idle
+abbrev pub invariant-loop : goal.invariant-loop
+invariant-loop l = IsIdle l.semaphore l.pass

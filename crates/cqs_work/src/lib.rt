@@ -15,6 +15,7 @@ mod acts;
 mod clerk;
 mod ends;
 mod gate;
+mod hold;
 mod laws;
 mod plans;
 mod posts;
@@ -24,6 +25,7 @@ mod works;
 
 pub use ends::{JobEnd, JobEnds, Totals, totals_of};
 pub use gate::{Gate, OpenGate};
+pub use hold::HoldGate;
 pub use laws::{even_pools_are_quiet, even_semaphores_are_quiet};
 pub use plans::{Worked, work_plan};
 pub use waits::{WaitLine, WaitLines, Waited};

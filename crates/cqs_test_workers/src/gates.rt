@@ -2,7 +2,9 @@
 
 use crate::call::{call_by, words_of};
 use crate::gate::Meeting;
+use crate::holds::tell_holds;
 use crate::lines::{has_line, have_same_ends, tells_all};
+use crate::stall::Stall;
 use crate::tally::Tally;
 use cqs_work::{Gate, OpenGate};
 use std::fs;
@@ -11,13 +13,13 @@ use std::sync::Wait;
 use std::thread::Threads;
 
 /// How many jobs the plan of the buffers has.
-const JOBS: u64 = 41;
+pub const JOBS: u64 = 41;
 
 /// The status of a call whose whole text was written.
 const DONE: u8 = 0;
 
 /// What so many workers write of a plan, each of their calls by way of the gate.
-fn work_by<R: Threads + Wait + Sync + AllocGlobal, G: Gate + Sync>(
+pub fn work_by<R: Threads + Wait + Sync + AllocGlobal, G: Gate + Sync>(
     rt: &R,
     workers: &str,
     plan: &str,
@@ -47,6 +49,23 @@ fn tell_meeting<R: Threads + Wait + Sync + Files + Print + AllocGlobal>(
         gate.was_served(rt)
     )?;
     println!(rt; "a worker was held in vain: {}", gate.was_in_vain(rt))?;
+    Ok(())
+}
+
+/// Four workers, of whom the first is stalled in the middle of its turn until the others have
+/// ended.
+fn tell_stall<R: Threads + Wait + Sync + Files + Print + AllocGlobal>(
+    rt: &R,
+) -> anyhow::Result<()> {
+    let plan = fs::read_to_string(rt, "stalled.toml")?;
+    let gate = Stall::new();
+    let text = work_by(rt, "4", plan.as_str(), &gate)?;
+    print!(rt; "{}", text.as_str())?;
+    println!(rt;
+        "a worker stalled while the others ended: {} of 3, in vain {}",
+        gate.ended(rt),
+        gate.was_in_vain(rt)
+    )?;
     Ok(())
 }
 
@@ -89,5 +108,7 @@ pub fn tell_gates<R: Threads + Wait + Sync + Files + Print + AllocGlobal>(
     tell_meeting(rt)?;
     tell_calls(rt)?;
     tell_workers(rt, "4")?;
-    tell_workers(rt, "16")
+    tell_workers(rt, "16")?;
+    tell_stall(rt)?;
+    tell_holds(rt)
 }

@@ -8,14 +8,18 @@
 //! The last line may be `gates`. Then workers run plans of data/ by way of gates. Two workers are
 //! kept beside each other by a gate that no single thread passes, whichever of them it takes first.
 //! Another gate counts the calls of one worker. Then 4 workers and 16 run a plan whose text tells
-//! some things whatever the order in which they come.
+//! some things whatever the order in which they come. One more gate stalls a worker with what it
+//! has taken until the others have ended; and last, each of 4 workers is held for a while before
+//! each of its first calls.
 #![tactic(auto)]
 
 mod call;
 mod case;
 mod gate;
 mod gates;
+mod holds;
 mod lines;
+mod stall;
 mod tally;
 
 use crate::case::Case;

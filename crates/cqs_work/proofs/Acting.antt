@@ -31,6 +31,7 @@ use Rattle.cqs_work.specs.Adds.{Adds, Keeps, EndsSo}
 use Rattle.cqs_work.proofs.Lasting.{later-none}
 use Rattle.cqs_work.proofs.Adding.{keeps-none, keeps-then}
 use Rattle.cqs_work.proofs.Causing.{cause-stays, adds-keeps, adds-as, adds-then, tally-done, tally-gave-up, due-some}
+use Rattle.cqs_work.proofs.Gating.{told-none}
 use Rattle.cqs_work.proofs.HeardLemmas.{hears-none, hears-then, hears-on}
 use Rattle.cqs_work.proofs.Moving.{moves-none, moves-end, moves-on}
 use Rattle.cqs_work.proofs.StepNeeds.{drop-at}
@@ -188,6 +189,7 @@ gives-up a f g k at round number e held left is gives =
     let all : Hears g k (λ h. give_up_all a (h, e)) (left_so (Ended e)) = record {
       later = back.later;
       answers = back.answers;
+      told = back.told;
       plays = λ rest. ap (left_so (Ended e)) (back.plays rest);
     } in
     record {
@@ -213,7 +215,12 @@ pub works-on : (a : Actor) (f : Desk) (p : Progress) (next until : ℕ) → p �
 works-on a f p next until is below can =
     let later : nat_lt a.turn until ≡ true = lt-ltb a.turn until below in
     record {
-      hears = record { later = later-none f.floor; answers = []; plays = λ rest. rw (is, later) refl };
+      hears = record {
+        later = later-none f.floor;
+        answers = [];
+        told = told-none f.gate;
+        plays = λ rest. rw (is, later) refl;
+      };
       stands = can.stands;
       rounds = can.rounds;
       moves = moves-none a.place f.floor.board f.floor.parties (steps_left a.job.now.steps p);
@@ -223,7 +230,7 @@ works-on a f p next until is below can =
 pub rests-on : (a : Actor) (f : Desk) (p : Progress) (e : End) → p ≡ Ended e → CanAct a f.floor p
     → Did a f p (act a p) (left_so p) f p
 rests-on a f p e is can = record {
-  hears = record { later = later-none f.floor; answers = []; plays = λ rest. rw is refl };
+  hears = record { later = later-none f.floor; answers = []; told = told-none f.gate; plays = λ rest. rw is refl };
   stands = can.stands;
   rounds = can.rounds;
   moves = moves-none a.place f.floor.board f.floor.parties (steps_left a.job.now.steps p);
@@ -253,6 +260,7 @@ worked-did a f g p next until q is past made =
       hears = record {
         later = made.hears.later;
         answers = made.hears.answers;
+        told = made.hears.told;
         plays = λ rest. rw later
             (made.hears.plays rest);
       };
@@ -320,6 +328,7 @@ gave-up-did a f g p next at round number e is due gave ends =
       hears = record {
         later = gave.hears.later;
         answers = gave.hears.answers;
+        told = gave.hears.told;
         plays = λ rest. ap (turn_of_waiting a next at round number (heard f (gave.hears.answers ++ rest))) due
             ∙ gave.hears.plays rest;
       };
@@ -341,6 +350,7 @@ looked-did a f g p next at round number q is due looked =
       hears = record {
         later = looked.hears.later;
         answers = looked.hears.answers;
+        told = looked.hears.told;
         plays = λ rest. ap (turn_of_waiting a next at round number (heard f (looked.hears.answers ++ rest))) due
             ∙ looked.hears.plays rest;
       };

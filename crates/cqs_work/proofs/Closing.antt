@@ -23,11 +23,12 @@ use Rattle.cqs_work.specs.Desk.{Desk}
 use Rattle.cqs_work.specs.Heard.{Heard, Hears, heard, heard_world}
 use Rattle.cqs_work.specs.Roles.{same, give_each, leave_end, ended_so}
 use Rattle.cqs_work.specs.Doing.{Stands, GaveUp}
-use Rattle.cqs_work.specs.Works.{RunsOn, HasWorked, turns_of, machine_so, progress_of, line_left_so, close, after_last_gives, close_from, close_all, IsClear, AllClear, AreKept}
+use Rattle.cqs_work.specs.Works.{HasWorkedOn, RunsOn, HasWorked, turns_of, machine_so, progress_of, line_left_so, close, after_last_gives, close_from, close_all, IsClear, AllClear, AreKept}
 use Rattle.cqs_work.specs.Adds.{Keeps}
 use Rattle.cqs_work.specs.Courses.{Went}
 use Rattle.cqs_work.proofs.Adding.{keeps-none, keeps-then}
 use Rattle.cqs_work.proofs.Lasting.{later-none}
+use Rattle.cqs_work.proofs.Gating.{told-none}
 use Rattle.cqs_work.proofs.HeardLemmas.{hears-then, hears-on, hears-none}
 use Rattle.cqs_work.proofs.Moving.{moves-none, moves-on}
 use Rattle.cqs_work.proofs.StepNeeds.{drop-at}
@@ -43,6 +44,7 @@ left-line a f g p next at round number e is left =
       hears = record {
         later = left.hears.later;
         answers = left.hears.answers;
+        told = left.hears.told;
         plays = λ rest. ap (λ x. x.0)
             (left.hears.plays rest);
       };
@@ -55,23 +57,24 @@ left-line a f g p next at round number e is left =
 no-line : (a : Actor) (f : Desk) (p : Progress) → ((h : Heard) → line_left_so a p h ≡ h) → wait_in p ≡ None
     → Stands a f.floor (wait_in p) [] → GaveUp a f (line_left_so a p) same f
 no-line a f p stays none stands = record {
-  hears = record { later = later-none f.floor; answers = []; plays = λ rest. stays (heard f rest) };
+  hears = record {
+    later = later-none f.floor;
+    answers = [];
+    told = told-none f.gate;
+    plays = λ rest. stays (heard f rest);
+  };
   stands = rw none at stands;
   moves = moves-none a.place f.floor.board f.floor.parties [];
   keeps = keeps-none f;
 }
 
-pub no-line-stepping : (a : Actor) (f : Desk) (p : Progress) (next : ℕ) → p ≡ Stepping next
+pub no-line-else : (a : Actor) (f : Desk) (p : Progress)
+    → ((next : ℕ) × (p ≡ Stepping next))
+    ⊎ (((next : ℕ) × (until : ℕ) × (p ≡ Working next until)) ⊎ ((e : End) × (p ≡ Ended e)))
     → Stands a f.floor (wait_in p) [] → GaveUp a f (line_left_so a p) same f
-no-line-stepping a f p next is stands = no-line a f p (λ h. rw is refl) (ap wait_in is) stands
-
-pub no-line-working : (a : Actor) (f : Desk) (p : Progress) (next until : ℕ) → p ≡ Working next until
-    → Stands a f.floor (wait_in p) [] → GaveUp a f (line_left_so a p) same f
-no-line-working a f p next until is stands = no-line a f p (λ h. rw is refl) (ap wait_in is) stands
-
-pub no-line-ended : (a : Actor) (f : Desk) (p : Progress) (e : End) → p ≡ Ended e
-    → Stands a f.floor (wait_in p) [] → GaveUp a f (line_left_so a p) same f
-no-line-ended a f p e is stands = no-line a f p (λ h. rw is refl) (ap wait_in is) stands
+no-line-else a f p (inl steps) stands = no-line a f p (λ h. rw steps.1 refl) (ap wait_in steps.1) stands
+no-line-else a f p (inr (inl works)) stands = no-line a f p (λ h. rw works.2 refl) (ap wait_in works.2) stands
+no-line-else a f p (inr (inr ended)) stands = no-line a f p (λ h. rw ended.1 refl) (ap wait_in ended.1) stands
 
 -- and then gives back all that it holds
 pub closes : (a : Actor) (f g k : Desk) (p : Progress) (held : List ℕ) → GaveUp a f (line_left_so a p) same g
@@ -83,7 +86,7 @@ closes a f g k p held left is gives =
     = subst (λ l. Hears g k (give_each a l) same) is gives.hears in
     record {
       hears = hears-then f g k (close a p) (machine.after_all_gives heard_world (role a)) same on
-          (record { later = back.later; answers = back.answers; plays = back.plays });
+          (record { later = back.later; answers = back.answers; told = back.told; plays = back.plays });
       stands = gives.stands;
       moves = moves-on a.place f.floor.board f.floor.parties [] g.floor.board g.floor.parties [] k.floor.board
           k.floor.parties [] left.moves gives.moves;
@@ -198,6 +201,7 @@ module _ (plan : Plan) (place : ℕ) (f g k : Desk) (first states : List JobStat
         let step : Hears g k (close_from plan place (drop place plan.jobs) (progress_of first)) rest = record {
           later = gave.hears.later;
           answers = gave.hears.answers;
+          told = gave.hears.told;
           plays = λ more. step-is (heard g (gave.hears.answers ++ more)) ∙ ap rest (gave.hears.plays more);
         } in
         record {
@@ -263,7 +267,9 @@ pub worked-ok : {T E : Type 0} (r : Result T E) (plan : Plan) (f last g : Desk) 
     → Went plan f (progress_of states) last (progress_of mid)
     → OnOk r (Hears last g (close_all plan (progress_of mid)) same) → OnOk r (Keeps last g)
     → OnOk r (AllClear plan g.floor) → OnOk r (progress_of ends ≡ progress_of mid)
-    → OnOk r (HasWorked plan f states ends g)
-worked-ok (Ok x) plan f last g states mid ends turns runs went closing keeps clear progress =
-    worked plan f last g states mid ends turns runs went closing keeps clear progress
+    → OnOk r (HasWorkedOn plan f states ends g.floor g.waits)
+worked-ok (Ok x) plan f last g states mid ends turns runs went closing keeps clear progress = record {
+  gate = g.gate;
+  works = worked plan f last g states mid ends turns runs went closing keeps clear progress;
+}
 worked-ok (Err e) plan f last g states mid ends turns runs went closing keeps clear progress = tt

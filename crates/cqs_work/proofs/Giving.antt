@@ -13,6 +13,7 @@ use Rattle.cqs_floor_shared.specs.declared.shared.SharedGive.{SharedGive}
 use Rattle.cqs_floor_shared.specs.Shared.{kind_at}
 use Rattle.cqs_floor_shared.specs.Calls.{Gives}
 use Rattle.cqs_work.specs.Desk.{Desk}
+use Rattle.cqs_work.specs.Gated.{HasTold}
 use Rattle.cqs_work.specs.Heard.{Hears}
 use Rattle.cqs_work.specs.Heard as answer
 use Rattle.cqs_work.specs.Roles.{give_one, give_each, same}
@@ -65,8 +66,9 @@ resource-next a f all i g giving below =
 
 pub gives-next : (a : Actor) (f g k : Desk) (all : List ℕ) (i : ℕ) (got : SharedGive) → GivingOn a f all i g
     → i < length all → Gives g.floor (get_or all i 0) a.place got k.floor → k.waits ≡ g.waits
+    → HasTold g.gate k.gate 1
     → GivingOn a f all (i + 1) k
-gives-next a f g k all i got giving below gives waits =
+gives-next a f g k all i got giving below gives waits told =
     let at : ℕ = get_or all i 0 in
     let rest : List ℕ = drop (i + 1) all in
     let split : drop i all ≡ at ∷ rest = drop_more all i 0 below in
@@ -77,6 +79,7 @@ gives-next a f g k all i got giving below gives waits =
       later = give-later g.floor at a.place got k.floor gives (resource-next a f all i g giving below) stands.ready.job
           (holds-next a f all i g giving below);
       answers = answer.gave got ∷ [];
+      told = told;
       plays = λ more. gave-is g (role a) at got k gives waits more;
     } in
     let onward : Hears g k (give_each a (at ∷ rest)) (give_each a rest)

@@ -1,5 +1,5 @@
 -- Calls of a shared floor in the words of the machine over answers.
-use Rattle.std.proofs.Common.{◌≡◌, ℕ, List, [], ◌∷◌, ◌++◌, Option, Some, None, Bool, true, false, ◌&&◌, map, refl, sym, ap, ◌∙◌, append_assoc}
+use Rattle.std.proofs.Common.{◌≡◌, ℕ, List, [], ◌∷◌, ◌++◌, length-append, Option, Some, None, Bool, true, false, ◌&&◌, map, refl, sym, ap, ◌∙◌, append_assoc}
 use Rattle.std.specs.Prelude.{slice_index_or, slice_set}
 use Rattle.std.proofs.Math.ListN.{get_or-map}
 use Rattle.std.proofs.lemmas.List.{map-set}
@@ -28,6 +28,7 @@ use Rattle.cqs_floor_shared.specs.Calls.{Comes, Gives, Downs, Looks, Leaves, IsD
 use Rattle.cqs_work.specs.Desk.{Desk, with_answer}
 use Rattle.cqs_work.specs.Heard.{Heard, Answer, Hears, heard, with_call, heard_came, heard_given, heard_counted, heard_looked, heard_left, is_drawn, may_come, is_found, is_kept}
 use Rattle.cqs_work.specs.Heard as answer
+use Rattle.cqs_work.proofs.Gating.{told-none, told-then}
 use Rattle.cqs_work.proofs.Lasting.{later-none, later-then}
 
 -- what names a caller in a longer history
@@ -178,7 +179,8 @@ left-is f r wait got g leaves waits rest i = record {
 module _ {X : Type 0} where
   -- no call
   pub hears-none : (f : Desk) (go : Heard → X) → Hears f f go go
-  hears-none f go = record { later = later-none f.floor; answers = []; plays = λ rest. refl }
+  hears-none f go =
+      record { later = later-none f.floor; answers = []; told = told-none f.gate; plays = λ rest. refl }
 
   -- some calls, and then others
   pub hears-then : (f g k : Desk) (go mid after : Heard → X) → Hears f g go mid → Hears g k mid after
@@ -186,6 +188,7 @@ module _ {X : Type 0} where
   hears-then f g k go mid after first second = record {
     later = later-then f.floor g.floor k.floor first.later second.later;
     answers = first.answers ++ second.answers;
+    told = told-then f.gate g.gate k.gate _ _ _ first.told second.told (length-append first.answers second.answers);
     plays = λ rest. ap (λ l. go (heard f l)) (append_assoc first.answers second.answers rest)
         ∙ first.plays (second.answers ++ rest) ∙ second.plays rest;
   }
@@ -196,5 +199,6 @@ module _ {X : Type 0} where
   hears-on on f g go after hears = record {
     later = hears.later;
     answers = hears.answers;
+    told = hears.told;
     plays = λ rest. ap on (hears.plays rest);
   }

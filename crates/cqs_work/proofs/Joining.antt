@@ -1,5 +1,5 @@
 -- A whole run of a plan by several workers: from what each of its parts leaves.
-use Rattle.std.proofs.Common.{◌≡◌, ◌≢◌, ◌⊎◌, inl, inr, ℕ, zero, suc, ◌<◌, ◌≤◌, ◌%◌, List, [], ◌∷◌, ◌++◌, Some, Result, IfOk, All, AllPairs, Bool, flat_map, length, map, get_or, slice_get, refl, sym, ap, subst, ◌∙◌, arith}
+use Rattle.std.proofs.Common.{length-append, ◌≡◌, ◌≢◌, ◌⊎◌, inl, inr, ℕ, zero, suc, ◌<◌, ◌≤◌, ◌%◌, List, [], ◌∷◌, ◌++◌, Some, Result, IfOk, All, AllPairs, Bool, flat_map, length, map, get_or, slice_get, refl, sym, ap, subst, ◌∙◌, arith}
 use Rattle.std.proofs.Math.ListN.{get_or-map}
 use Rattle.std.proofs.lemmas.List.{append-nil, length-map}
 use Rattle.std.proofs.lemmas.List.Elements.{All-nil, All-cons}
@@ -33,7 +33,8 @@ use Rattle.cqs_work.specs.declared.waits.WaitLine.{WaitLine}
 use Rattle.cqs_work.specs.Accounts.{sum_in}
 use Rattle.cqs_work.specs.Causes.{IsCaused, HasCause, last_wait}
 use Rattle.cqs_work.specs.Courses.{GoesOn}
-use Rattle.cqs_work.specs.Desk.{desk}
+use Rattle.cqs_work.specs.Desk.{desk, fresh_desk}
+use Rattle.cqs_work.specs.Gated.{Gated, HasTold, untold}
 use Rattle.cqs_work.specs.Ends.{job_end}
 use Rattle.cqs_work.specs.Noted.{draws_in, HasPermits, told_at, as_draw, IsNoted}
 use Rattle.cqs_work.specs.Rows.{AreLines}
@@ -43,13 +44,14 @@ use Rattle.cqs_work.specs.Heard.{heard}
 use Rattle.cqs_work.specs.Later.{Later, IsSound, IsUnnamed}
 use Rattle.cqs_work.specs.Met.{CanMeet, CanMeetAll, HaveMet, HaveMetAll, IsKeptIn}
 use Rattle.cqs_work.specs.Opening.{dealt, AreStarting, IsOpening, AreSplit, ArePosts}
-use Rattle.cqs_work.specs.Works.{RunsOn, HasWorked, AllWorked, progress_of, turns_of, close_all}
-use Rattle.cqs_work.specs.Worked.{IsParted, AreParted, AreEnds, IsTold, AreTold, AreQuiet, AreWaits, AreBounded, HaveAllIn, progress_at, end_at, is_own, is_own_done, seeing_all}
+use Rattle.cqs_work.specs.Works.{HasWorkedOn, RunsOn, HasWorked, AllWorked, progress_of, turns_of, close_all}
+use Rattle.cqs_work.specs.Worked.{IsGated, AreGated, IsParted, AreParted, AreEnds, IsTold, AreTold, AreQuiet, AreWaits, AreBounded, HaveAllIn, progress_at, end_at, is_own, is_own_done, seeing_all}
 use Rattle.cqs_work.proofs.Lasting.{later-then}
 use Rattle.cqs_work.proofs.Meeting.{has-back}
 use Rattle.cqs_work.proofs.Causing.{caused-stays, seen-cause}
 use Rattle.cqs_work.proofs.Bounding.{done-made, none-made, all-left, sum-kept}
 use Rattle.cqs_work.proofs.Crews.{IsMember, AreCrew, waits-are, line-told}
+use Rattle.cqs_work.proofs.Gating.{told-then}
 use Rattle.cqs_work.proofs.Openings.{map-back, progress-dealt, opening-runs, opening-sound, opening-accounted, opening-noted, opening-took, opening-caused, opening-own, starting-at}
 use Rattle.cqs_work.proofs.Quieting.{at-rest, IsEvenOwn, even-then, quiet-at}
 
@@ -89,14 +91,18 @@ module _ {F : Type 0} (shared : F → Shared) (plan : Plan) (floors : List F) (p
           (go rest (λ i p got. each (suc i) p got))
 
   -- What one worker did: from its opening floor and states to its last ones.
-  pub record Went (i : ℕ) (before after : F) (own : List JobState) (told : List Waited) : Type 0 where
+  pub record Went (i : ℕ) (before after : F) (own : List JobState) (told : List Waited) (tells : ℕ → Bool)
+      : Type 0 where
+    pub gate : Gated
     pub states : List JobState
     pub starts : AreStarting (length plan.jobs) (length floors) i states
     pub opens : IsOpening plan (length floors) i (shared before)
-    pub works : HasWorked plan (desk (shared before) []) states own (desk (shared after) told)
+    pub works : HasWorked plan (fresh_desk (shared before) tells) states own
+        (desk (shared after) told gate)
 
   module _ (all : List (Result (Worker F) Memory)) (lefts : List F) (own : List (List JobState))
-      (told : List (List Waited)) (long : length all ≡ length posts) (worked : AllWorked shared plan posts all)
+      (told : List (List Waited)) (long : length all ≡ length posts) {tells : ℕ → ℕ → Bool}
+      (worked : AllWorked shared tells plan posts all)
       (parted : AreParted all lefts own told) where
     pub lefts-long : length lefts ≡ length floors
     lefts-long = parted.floors_long ∙ long ∙ posted.long
@@ -106,7 +112,7 @@ module _ {F : Type 0} (shared : F → Shared) (plan : Plan) (floors : List F) (p
 
     pub went : (i : ℕ) (before : F) → slice_get floors i ≡ Some before
         → (after : F) × (states : List JobState) × (waits : List Waited) × (slice_get lefts i ≡ Some after)
-        × (slice_get own i ≡ Some states) × (slice_get told i ≡ Some waits) × Went i before after states waits
+        × (slice_get own i ≡ Some states) × (slice_get told i ≡ Some waits) × Went i before after states waits (tells i)
     went i before got =
         let post : (p : Post F) × (slice_get posts i ≡ Some p)
         = get-there posts i (omega (arith, get-below floors i before got, posted.long)) in
@@ -115,12 +121,14 @@ module _ {F : Type 0} (shared : F → Shared) (plan : Plan) (floors : List F) (p
         let is : IsParted i r.0 lefts own told = parted.each.at i r.0 r.1 in
         let floor_is : Some post.0.floor ≡ Some before = sym (posted.its_floor i post.0 post.1) ∙ got in
         let same : post.0.floor ≡ before = cc in
-        let Of : Result (Worker F) Memory → Type 0 = λ x. IfOk x (λ worker.
-        HasWorked plan (desk (shared post.0.floor) []) post.0.states.items worker.states.items
-        (desk (shared worker.floor) worker.waits.items)) in
-        let works : HasWorked plan (desk (shared post.0.floor) []) post.0.states.items is.worker.states.items
-        (desk (shared is.worker.floor) is.worker.waits.items)
-        = subst Of is.is (worked.at i post.0 r.0 post.1 r.1) in (
+        let Left : Result (Worker F) Memory → Type 0 = λ x. IfOk x (λ worker.
+        HasWorkedOn plan (fresh_desk (shared post.0.floor) (tells post.0.worker)) post.0.states.items
+        worker.states.items (shared worker.floor) worker.waits.items) in
+        let from : HasWorkedOn plan (fresh_desk (shared post.0.floor) (tells post.0.worker)) post.0.states.items
+        is.worker.states.items (shared is.worker.floor) is.worker.waits.items
+        = subst Left is.is (worked.at i post.0 r.0 post.1 r.1) in
+        let Works : F → ℕ → Type 0 = λ f n. HasWorked plan (fresh_desk (shared f) (tells n)) post.0.states.items
+        is.worker.states.items (desk (shared is.worker.floor) is.worker.waits.items from.gate) in (
           is.worker.floor,
           is.worker.states.items,
           is.worker.waits.items,
@@ -131,15 +139,15 @@ module _ {F : Type 0} (shared : F → Shared) (plan : Plan) (floors : List F) (p
             states = post.0.states.items;
             starts = posted.states.at i post.0 post.1;
             opens = opens-at i before got;
-            works = subst (λ f. HasWorked plan (desk (shared f) []) post.0.states.items is.worker.states.items
-                (desk (shared is.worker.floor) is.worker.waits.items))
-                same works;
+            gate = from.gate;
+            works = subst (λ f. Works f i) same
+                (subst (Works post.0.floor) (posted.numbers.at i post.0 post.1) from.works);
           },
         )
 
     -- by its place among the floors that are left
     back : (i : ℕ) (after : F) → slice_get lefts i ≡ Some after
-        → (before : F) × (states : List JobState) × (waits : List Waited) × Went i before after states waits
+        → (before : F) × (states : List JobState) × (waits : List Waited) × Went i before after states waits (tells i)
         × (slice_get floors i ≡ Some before)
     back i after got =
         let first : (f : F) × (slice_get floors i ≡ Some f)
@@ -147,7 +155,7 @@ module _ {F : Type 0} (shared : F → Shared) (plan : Plan) (floors : List F) (p
         let it = went i first.0 first.1 in
         let same_some : Some it.0 ≡ Some after = sym it.3 ∙ got in
         let same : it.0 ≡ after = cc in
-        (first.0, it.1, it.2, subst (λ g. Went i first.0 g it.1 it.2) same it.6, first.1)
+        (first.0, it.1, it.2, subst (λ g. Went i first.0 g it.1 it.2 (tells i)) same it.6, first.1)
 
     pub states-long : EachAt (λ worker states. length states ≡ length plan.jobs) own
     states-long = record { at = at }
@@ -313,7 +321,7 @@ module _ {F : Type 0} (shared : F → Shared) (plan : Plan) (floors : List F) (p
 
         -- what a worker has seen and what it has is in all histories
         module _ (i : ℕ) (before after : F) (states : List JobState) (waits : List Waited)
-            (it : Went i before after states waits) (kept : IsKeptIn final (shared after)) where
+            (it : Went i before after states waits (tells i)) (kept : IsKeptIn final (shared after)) where
           number-is : (shared after).number ≡ (shared before).number
           number-is = it.works.closing.later.same.number ∙ it.works.turns.later.same.number
 
@@ -322,13 +330,13 @@ module _ {F : Type 0} (shared : F → Shared) (plan : Plan) (floors : List F) (p
               let opened : (shared before).board.kinds ≡ kinds_of plan.resources = it.opens.kinds in
               kinds-are ∙ sym opened ∙ sym it.works.turns.later.kinds ∙ sym it.works.closing.later.kinds
 
-          noted-first : IsNoted (desk (shared before) [])
-          noted-first = opening-noted plan (length floors) i (shared before) it.opens
+          noted-first : IsNoted (fresh_desk (shared before) (tells i))
+          noted-first = opening-noted plan (length floors) i (shared before) it.opens _
 
           noted-last : IsNoted it.works.last
           noted-last = it.works.went.noted noted-first
 
-          noted : IsNoted (desk (shared after) waits)
+          noted : IsNoted (desk (shared after) waits it.gate)
           noted = it.works.keeps.noted noted-last
 
           told-all : waits ≡ it.works.went.more
@@ -401,16 +409,18 @@ module _ {F : Type 0} (shared : F → Shared) (plan : Plan) (floors : List F) (p
           -- what stands behind the ends of its jobs
           pub cause-by : (place : ℕ) (job : Job) (p : Progress) → slice_get plan.jobs place ≡ Some job
               → slice_get (progress_of states) place ≡ Some p
-              → HasCause job place (seeing_all (shared before) final (heard (desk (shared after) waits) [])) (job_end p)
+              → HasCause job place (seeing_all (shared before) final (heard (desk (shared after) waits untold) []))
+              (job_end p)
           cause-by place job p got_job got =
               let last = it.works.went.caused noted-first
-              (opening-caused plan (length floors) i it.states it.starts (desk (shared before) [])) in
-              let now : IsCaused job place (desk (shared after) waits) p
-              = caused-stays job place it.works.last (desk (shared after) waits) p it.works.closing.later
+              (opening-caused plan (length floors) i it.states it.starts _) in
+              let now : IsCaused job place (desk (shared after) waits it.gate) p
+              = caused-stays job place it.works.last (desk (shared after) waits it.gate) p it.works.closing.later
               (ap (last_wait place) it.works.keeps.waits) (it.works.keeps.came place)
               (last.at place job p got_job got) in
-              seen-cause job place (desk (shared after) waits)
-              (seeing_all (shared before) final (heard (desk (shared after) waits) [])) kept.before (sym number-is)
+              seen-cause job place (desk (shared after) waits it.gate)
+              (seeing_all (shared before) final (heard (desk (shared after) waits untold) [])) kept.before
+              (sym number-is)
               (sym (it.works.closing.later.same.limits ∙ it.works.turns.later.same.limits)) refl refl p now
 
         crew-named : (at n : ℕ) → IsUnnamed n (seen_at final at)
@@ -501,7 +511,7 @@ module _ {F : Type 0} (shared : F → Shared) (plan : Plan) (floors : List F) (p
 
         module _ (ends : List JobEnd) (are : AreEnds (length plan.jobs) own ends) (lines : List WaitLine)
             (lined : AreLines (kinds_of plan.resources) (flat_map (λ l. l) told) (length plan.resources) lines) where
-          told-at : (i : ℕ) (before : F) → slice_get floors i ≡ Some before
+          abbrev told-at : (i : ℕ) (before : F) → slice_get floors i ≡ Some before
               → IsTold plan (length floors) i (shared before) final ends lines
           told-at i before got =
               let it = went i before got in
@@ -519,9 +529,9 @@ module _ {F : Type 0} (shared : F → Shared) (plan : Plan) (floors : List F) (p
                 after_last = works.closing.answers;
                 progress = progress_of states;
                 mid = heard works.last works.closing.answers;
-                end = heard (desk g it.2) [];
+                end = heard (desk g it.2 untold) [];
                 turns = ap (λ p. turns_of plan plan.turns p
-                    (heard (desk (shared before) []) (works.turns.answers ++ works.closing.answers))) (sym begun)
+                    (heard (desk (shared before) [] untold) (works.turns.answers ++ works.closing.answers))) (sym begun)
                     ∙ works.turns.plays works.closing.answers;
                 closing = ap (λ l. close_all plan (progress_of states) (heard works.last l))
                     (sym (append-nil works.closing.answers)) ∙ works.closing.plays [];
@@ -546,7 +556,8 @@ module _ {F : Type 0} (shared : F → Shared) (plan : Plan) (floors : List F) (p
                     )) in
                     let ended : end_at ends place ≡ job_end there.0
                     = ended-by ends are i it.1 it.4 place there.0 mine there.1 in
-                    subst (HasCause job place (seeing_all (shared before) final (heard (desk g it.2) []))) (sym ended)
+                    subst (HasCause job place (seeing_all (shared before) final (heard (desk g it.2 untold) [])))
+                    (sym ended)
                     (cause-by i before after it.1 it.2 it.6 kept place job there.0 got_job there.1);
               }
 
@@ -557,6 +568,31 @@ module _ {F : Type 0} (shared : F → Shared) (plan : Plan) (floors : List F) (p
                 let its : IsTold plan (length floors) i f final ends lines
                 = subst (λ x. IsTold plan (length floors) i x final ends lines) it.2 (told-at i it.0 it.1) in
                 subst (λ n. IsTold plan n i f final ends lines) (sym many) its;
+          }
+
+          -- and what its gate was told
+          gated-at : (i : ℕ) (before : F) → slice_get floors i ≡ Some before
+              → IsGated plan (length floors) i (shared before) final ends lines (tells i)
+          gated-at i before got =
+              let it = (went i before got).6 in
+              let works = it.works in
+              let all : HasTold (fresh_desk (shared before) (tells i)).gate it.gate
+              (length (works.turns.answers ++ works.closing.answers))
+              = told-then _ works.last.gate it.gate _ _ _ works.turns.told works.closing.told
+              (length-append works.turns.answers works.closing.answers) in
+              record {
+                by_answers = told-at i before got;
+                each = λ call past inside. all.each call past (omega (arith, inside, all.call));
+              }
+
+          all-gated_by : AreGated plan (map shared floors) final ends lines tells
+          all-gated_by = record {
+            at = λ i f got.
+                let it = map-back shared floors i f got in
+                let its : IsGated plan (length floors) i f final ends lines (tells i)
+                = subst (λ x. IsGated plan (length floors) i x final ends lines (tells i)) it.2
+                (gated-at i it.0 it.1) in
+                subst (λ n. IsGated plan n i f final ends lines (tells i)) (sym many) its;
           }
 
     -- by which floors are left
@@ -596,6 +632,15 @@ module _ {F : Type 0} (shared : F → Shared) (plan : Plan) (floors : List F) (p
           go : (list : List F) → lefts ≡ list → AreTold plan (map shared floors) final ends lines
           go [] is = absurd (nothing-left is)
           go (first ∷ rest) is = all-told_by first rest is final (met-by first rest is) ends are lines lined
+
+      pub all-gated : (ends : List JobEnd) → AreEnds (length plan.jobs) own ends → (lines : List WaitLine)
+          → AreLines (kinds_of plan.resources) (flat_map (λ l. l) told) (length plan.resources) lines
+          → AreGated plan (map shared floors) final ends lines tells
+      all-gated ends are lines lined = go lefts refl
+        where
+          go : (list : List F) → lefts ≡ list → AreGated plan (map shared floors) final ends lines tells
+          go [] is = absurd (nothing-left is)
+          go (first ∷ rest) is = all-gated_by first rest is final (met-by first rest is) ends are lines lined
 
       pub all-waits : (lines : List WaitLine)
           → AreLines (kinds_of plan.resources) (flat_map (λ l. l) told) (length plan.resources) lines

@@ -7,6 +7,7 @@ pub mod LookAccounts
 pub mod LeaveAccounts
 pub mod Adding
 pub mod Causing
+pub mod Gating
 pub mod HeardLemmas
 pub mod Parties
 pub mod Moving

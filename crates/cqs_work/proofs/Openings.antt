@@ -28,6 +28,7 @@ use Rattle.cqs_work.specs.Adds.{IsOver}
 use Rattle.cqs_work.specs.Causes.{IsCaused}
 use Rattle.cqs_work.specs.Courses.{AreCaused, GoesOn}
 use Rattle.cqs_work.specs.Desk.{Desk, desk}
+use Rattle.cqs_work.specs.Gated.{Gated}
 use Rattle.cqs_work.specs.Later.{IsSound}
 use Rattle.cqs_work.specs.Needs.{IsInRounds, AreProvided}
 use Rattle.cqs_work.specs.Noted.{IsNoted}
@@ -166,8 +167,8 @@ module _ (plan : Plan) (workers worker : ℕ) (f : Shared) (opens : IsOpening pl
   }
 
   -- no job was told a wait yet
-  pub opening-noted : IsNoted (desk f [])
-  opening-noted = record {
+  pub opening-noted : (gate : Gated) → IsNoted (desk f [] gate)
+  opening-noted gate = record {
     long = opening-accounted.long;
     at = λ at permits. nothing-draws f.number (seen_at f at) (opens.unnamed at f.number (inl refl));
   }

@@ -39,16 +39,20 @@ module _ {F : Type 0} where
     long = refl;
     its_floor = λ i post got. absurd (cc);
     states = record { at = λ i x got. absurd (cc) };
+    numbers = record { at = λ i x got. absurd (cc) };
   })
 
   pub posts-push : (jobs workers : ℕ) (floors : List F) (posts : List (Post F)) (post : Post F)
       → ArePosts jobs workers floors posts → AreStarting jobs workers (length posts) post.states.items
+      → post.worker ≡ length posts
       → ArePosts jobs workers (floors ++ post.floor ∷ []) (posts ++ post ∷ [])
-  posts-push jobs workers floors posts post are here = record {
+  posts-push jobs workers floors posts post are here number = record {
     long = omega (arith, length_push posts post, length_push floors post.floor, are.long);
     its_floor = λ i p got. its-floor i p got (push-at i p got (cases_lt i (length posts)));
     states = EachAt-push (λ worker p. AreStarting jobs workers worker p.states.items)
         (λ worker p. AreStarting jobs workers worker p.states.items) posts post here (λ i x got old. old) are.states;
+    numbers = EachAt-push (λ worker p. p.worker ≡ worker) (λ worker p. p.worker ≡ worker) posts post number
+        (λ i x got old. old) are.numbers;
   }
     where
       push-at : (i : ℕ) (p : Post F) → slice_get (posts ++ post ∷ []) i ≡ Some p
@@ -71,11 +75,11 @@ module _ {F : Type 0} where
   -- of the worker whose number is the next
   pub posts-next : (jobs workers worker : ℕ) (floors : List F) (posts : List (Post F)) (post : Post F)
       → ArePosts jobs workers floors posts → worker ≡ length posts
-      → AreStarting jobs workers worker post.states.items
+      → AreStarting jobs workers worker post.states.items → post.worker ≡ worker
       → ArePosts jobs workers (floors ++ post.floor ∷ []) (posts ++ post ∷ [])
-  posts-next jobs workers worker floors posts post are next here =
+  posts-next jobs workers worker floors posts post are next here number =
       posts-push jobs workers floors posts post are
-      (subst (λ n. AreStarting jobs workers n post.states.items) next here)
+      (subst (λ n. AreStarting jobs workers n post.states.items) next here) (number ∙ next)
 
   pub parted-none : (floors : List F) (states : List (List JobState)) (waits : List (List Waited)) → floors ≡ []
       → states ≡ [] → waits ≡ [] → AreParted {F = F} [] floors states waits

@@ -23,6 +23,7 @@ use Rattle.cqs_floor_shared.specs.declared.shared.SharedGive.{SharedGive}
 use Rattle.cqs_floor_shared.specs.Shared.{kind_at, parties_at}
 use Rattle.cqs_floor_shared.specs.Calls.{Takes, Waits as Waits_at, Arrives, Gives, Downs, element_held}
 use Rattle.cqs_work.specs.Desk.{Desk, with_answer}
+use Rattle.cqs_work.specs.Gated.{HasTold}
 use Rattle.cqs_work.specs.Heard.{Heard, Hears}
 use Rattle.cqs_work.specs.Heard as answer
 use Rattle.cqs_work.specs.Roles.{same, made_so, give_one, count_down, take_step, wait_step, arrive_step, make_step}
@@ -32,6 +33,7 @@ use Rattle.cqs_work.specs.Adds.{Adds, Keeps}
 use Rattle.cqs_work.proofs.Lasting.{later-none}
 use Rattle.cqs_work.proofs.Adding.{call-keeps, keeps-none, given-plain, counted-plain}
 use Rattle.cqs_work.proofs.Accounts.{take-later, wait-later, arrive-later, down-later, give-later}
+use Rattle.cqs_work.proofs.Gating.{told-none}
 use Rattle.cqs_work.proofs.HeardLemmas.{came-is, gave-is, counted-is}
 use Rattle.cqs_work.proofs.Moving.{moves-past, moves-on, moves-turned, moves-taken, moves-waited, moves-given, moves-arrived}
 use Rattle.cqs_work.proofs.StepNeeds.{made-count, party-some, steps-split, step-ready, step-provided, step-room, rounds-kept, take-resource, wait-resource, give-resource, give-holds}
@@ -70,15 +72,17 @@ turned-ready b place at steps ready = record {
 take-by : (a : Actor) (f g : Desk) (next at : ℕ) (got : Option FloorTake) → CanAct a f.floor (Stepping next)
     → slice_get a.job.now.steps next ≡ Some (Take at) → Takes f.floor at a.place got g.floor
     → g.waits ≡ with_answer f.waits at 0 a.place got
+    → HasTold f.gate g.gate 1
     → Did a f (Stepping next) (take_step a next at) (made_so (stop_of next at 0 got)) g
     (after_stop next (stop_of next at 0 got))
-take-by a f g next at (Some (Now element)) can its_step comes waits =
+take-by a f g next at (Some (Now element)) can its_step comes waits told =
     let b : PlainFloor = after_take f.floor.board at a.place (Now element) in
     did a f next (Take at) can its_step (take_step a next at) (made_so None) g (Stepping (next + 1))
     (record {
       later = take-later f.floor at a.place _ g.floor comes (take-resource a f.floor next at can its_step)
           can.stands.ready.job can.stands.ready.waits;
       answers = answer.come (Some (Now element)) comes.drew comes.with_it ∷ [];
+      told = told;
       plays = λ more. ap (made_so None) (came-is f at 0 a.place b f.floor.parties
           (Some (Now element)) g comes waits more);
     })
@@ -92,7 +96,7 @@ take-by a f g next at (Some (Now element)) can its_step comes waits =
     (step-room a f.floor next (Take at) can its_step at (may-take at))))
     (take-adds a f g next at _ its_step (take-resource a f.floor next at can its_step) (ap (λ c. c.kinds) comes.board)
     comes waits)
-take-by a f g next at (Some (Waits number)) can its_step comes waits =
+take-by a f g next at (Some (Waits number)) can its_step comes waits told =
     let b : PlainFloor = after_take f.floor.board at a.place (Waits number) in
     did a f next (Take at) can its_step (take_step a next at) (made_so (Some (Waiting (next + 1) at 0 number))) g
     (Waiting (next + 1) at 0 number)
@@ -100,6 +104,7 @@ take-by a f g next at (Some (Waits number)) can its_step comes waits =
       later = take-later f.floor at a.place _ g.floor comes (take-resource a f.floor next at can its_step)
           can.stands.ready.job can.stands.ready.waits;
       answers = answer.come (Some (Waits number)) comes.drew comes.with_it ∷ [];
+      told = told;
       plays = λ more. ap (made_so (Some (Waiting (next + 1) at 0 number)))
           (came-is f at 0 a.place b f.floor.parties (Some (Waits number)) g comes waits more);
     })
@@ -113,13 +118,14 @@ take-by a f g next at (Some (Waits number)) can its_step comes waits =
     (step-room a f.floor next (Take at) can its_step at (may-take at))))
     (take-adds a f g next at _ its_step (take-resource a f.floor next at can its_step) (ap (λ c. c.kinds) comes.board)
     comes waits)
-take-by a f g next at None can its_step comes waits =
+take-by a f g next at None can its_step comes waits told =
     let b : PlainFloor = with_less_room f.floor.board at in
     did a f next (Take at) can its_step (take_step a next at) (made_so (Some (Ended end.Crowded))) g (Ended end.Crowded)
     (record {
       later = take-later f.floor at a.place _ g.floor comes (take-resource a f.floor next at can its_step)
           can.stands.ready.job can.stands.ready.waits;
       answers = answer.come None comes.drew comes.with_it ∷ [];
+      told = told;
       plays = λ more. ap (made_so (Some (Ended end.Crowded))) (came-is f at 0 a.place b f.floor.parties None g comes
           waits more);
     })
@@ -136,28 +142,31 @@ take-by a f g next at None can its_step comes waits =
 pub take-did : (a : Actor) (f g : Desk) (next at : ℕ) (got known : Option FloorTake) → CanAct a f.floor (Stepping next)
     → slice_get a.job.now.steps next ≡ Some (Take at) → Takes f.floor at a.place got g.floor
     → got ≡ known → g.waits ≡ with_answer f.waits at 0 a.place known
+    → HasTold f.gate g.gate 1
     → Did a f (Stepping next) (take_step a next at) (made_so (stop_of next at 0 known)) g
     (after_stop next (stop_of next at 0 known))
-take-did a f g next at got known can its_step comes is waits =
+take-did a f g next at got known can its_step comes is waits told =
     let Goal : Option FloorTake → Type 0 = λ o.
     Did a f (Stepping next) (take_step a next at) (made_so (stop_of next at 0 o)) g
     (after_stop next (stop_of next at 0 o)) in
     subst Goal is
-    (take-by a f g next at got can its_step comes (waits ∙ ap (with_answer f.waits at 0 a.place) (sym is)))
+    (take-by a f g next at got can its_step comes (waits ∙ ap (with_answer f.waits at 0 a.place) (sym is)) told)
 
 -- a wait at a latch
 wait-by : (a : Actor) (f g : Desk) (next at : ℕ) (got : Option FloorTake) → CanAct a f.floor (Stepping next)
     → slice_get a.job.now.steps next ≡ Some (Await at) → Waits_at f.floor at a.place got g.floor
     → g.waits ≡ with_answer f.waits at 0 a.place got
+    → HasTold f.gate g.gate 1
     → Did a f (Stepping next) (wait_step a next at) (made_so (stop_of next at 0 got)) g
     (after_stop next (stop_of next at 0 got))
-wait-by a f g next at (Some (Now element)) can its_step comes waits =
+wait-by a f g next at (Some (Now element)) can its_step comes waits told =
     let b : PlainFloor = after_wait f.floor.board at a.place (Now element) in
     did a f next (Await at) can its_step (wait_step a next at) (made_so None) g (Stepping (next + 1))
     (record {
       later = wait-later f.floor at a.place _ g.floor comes (wait-resource a f.floor next at can its_step)
           can.stands.ready.job can.stands.ready.waits;
       answers = answer.come (Some (Now element)) comes.drew comes.with_it ∷ [];
+      told = told;
       plays = λ more. ap (made_so None) (came-is f at 0 a.place b f.floor.parties
           (Some (Now element)) g comes waits more);
     })
@@ -173,7 +182,7 @@ wait-by a f g next at (Some (Now element)) can its_step comes waits =
     (latch-some (kind_at f.floor at) (wait-resource a f.floor next at can its_step))
     (latch-else (kind_at f.floor at) (wait-resource a f.floor next at can its_step)) (ap (λ c. c.kinds) comes.board)
     comes waits)
-wait-by a f g next at (Some (Waits number)) can its_step comes waits =
+wait-by a f g next at (Some (Waits number)) can its_step comes waits told =
     let b : PlainFloor = after_wait f.floor.board at a.place (Waits number) in
     did a f next (Await at) can its_step (wait_step a next at) (made_so (Some (Waiting (next + 1) at 0 number))) g
     (Waiting (next + 1) at 0 number)
@@ -181,6 +190,7 @@ wait-by a f g next at (Some (Waits number)) can its_step comes waits =
       later = wait-later f.floor at a.place _ g.floor comes (wait-resource a f.floor next at can its_step)
           can.stands.ready.job can.stands.ready.waits;
       answers = answer.come (Some (Waits number)) comes.drew comes.with_it ∷ [];
+      told = told;
       plays = λ more. ap (made_so (Some (Waiting (next + 1) at 0 number)))
           (came-is f at 0 a.place b f.floor.parties (Some (Waits number)) g comes waits more);
     })
@@ -196,7 +206,7 @@ wait-by a f g next at (Some (Waits number)) can its_step comes waits =
     (latch-some (kind_at f.floor at) (wait-resource a f.floor next at can its_step))
     (latch-else (kind_at f.floor at) (wait-resource a f.floor next at can its_step)) (ap (λ c. c.kinds) comes.board)
     comes waits)
-wait-by a f g next at None can its_step comes waits =
+wait-by a f g next at None can its_step comes waits told =
     let b : PlainFloor = with_less_room f.floor.board at in
     did a f next (Await at) can its_step (wait_step a next at) (made_so (Some (Ended end.Crowded))) g
     (Ended end.Crowded)
@@ -204,6 +214,7 @@ wait-by a f g next at None can its_step comes waits =
       later = wait-later f.floor at a.place _ g.floor comes (wait-resource a f.floor next at can its_step)
           can.stands.ready.job can.stands.ready.waits;
       answers = answer.come None comes.drew comes.with_it ∷ [];
+      told = told;
       plays = λ more. ap (made_so (Some (Ended end.Crowded))) (came-is f at 0 a.place b f.floor.parties None g comes
           waits more);
     })
@@ -222,14 +233,15 @@ wait-by a f g next at None can its_step comes waits =
 pub wait-did : (a : Actor) (f g : Desk) (next at : ℕ) (got known : Option FloorTake) → CanAct a f.floor (Stepping next)
     → slice_get a.job.now.steps next ≡ Some (Await at) → Waits_at f.floor at a.place got g.floor
     → got ≡ known → g.waits ≡ with_answer f.waits at 0 a.place known
+    → HasTold f.gate g.gate 1
     → Did a f (Stepping next) (wait_step a next at) (made_so (stop_of next at 0 known)) g
     (after_stop next (stop_of next at 0 known))
-wait-did a f g next at got known can its_step comes is waits =
+wait-did a f g next at got known can its_step comes is waits told =
     let Goal : Option FloorTake → Type 0 = λ o.
     Did a f (Stepping next) (wait_step a next at) (made_so (stop_of next at 0 o)) g
     (after_stop next (stop_of next at 0 o)) in
     subst Goal is
-    (wait-by a f g next at got can its_step comes (waits ∙ ap (with_answer f.waits at 0 a.place) (sym is)))
+    (wait-by a f g next at got can its_step comes (waits ∙ ap (with_answer f.waits at 0 a.place) (sym is)) told)
 
 -- an arrival
 module _ (a : Actor) (f : Desk) (next at : ℕ) (can : CanAct a f.floor (Stepping next))
@@ -275,15 +287,16 @@ module _ (a : Actor) (f : Desk) (next at : ℕ) (can : CanAct a f.floor (Steppin
           omega (arith, kept, can.rounds q, made-count q a.job.now.steps next (Arrive at) its_step, none)
 
   arrive-by : (g : Desk) (got : Option FloorTake) → Arrives f.floor at a.place got g.floor
-      → g.waits ≡ with_answer f.waits at round a.place got
+      → g.waits ≡ with_answer f.waits at round a.place got → HasTold f.gate g.gate 1
       → Did a f (Stepping next) (arrive_step a next at) (made_so (stop_of next at round got)) g
       (after_stop next (stop_of next at round got))
-  arrive-by g (Some (Now element)) comes waits =
+  arrive-by g (Some (Now element)) comes waits told =
       let b : PlainFloor = after_arrive f.floor.board at a.place (Now element) in
       did a f next (Arrive at) can its_step (arrive_step a next at) (made_so None) g (Stepping (next + 1))
       (record {
         later = arrive-later f.floor at a.place _ g.floor comes arrives-in can.stands.ready.job can.stands.ready.waits;
         answers = answer.come (Some (Now element)) comes.drew comes.with_it ∷ [];
+        told = told;
         plays = λ more. ap (made_so None) (came-is f at round a.place b _ (Some (Now element)) g comes waits more);
       })
       (ap (λ c. c.kinds) comes.board)
@@ -296,13 +309,14 @@ module _ (a : Actor) (f : Desk) (next at : ℕ) (can : CanAct a f.floor (Steppin
       (else-adds a f g next at round (Arrive at) _ _ _ its_step (may-arrive at) (λ q. refl)
       (round-some (kind_at f.floor at) round arrives-in) (round-else (kind_at f.floor at) round arrives-in)
       (ap (λ c. c.kinds) comes.board) comes waits)
-  arrive-by g (Some (Waits number)) comes waits =
+  arrive-by g (Some (Waits number)) comes waits told =
       let b : PlainFloor = after_arrive f.floor.board at a.place (Waits number) in
       did a f next (Arrive at) can its_step (arrive_step a next at)
       (made_so (Some (Waiting (next + 1) at round number))) g (Waiting (next + 1) at round number)
       (record {
         later = arrive-later f.floor at a.place _ g.floor comes arrives-in can.stands.ready.job can.stands.ready.waits;
         answers = answer.come (Some (Waits number)) comes.drew comes.with_it ∷ [];
+        told = told;
         plays = λ more. ap (made_so (Some (Waiting (next + 1) at round number)))
             (came-is f at round a.place b _ (Some (Waits number)) g comes waits more);
       })
@@ -316,13 +330,14 @@ module _ (a : Actor) (f : Desk) (next at : ℕ) (can : CanAct a f.floor (Steppin
       (else-adds a f g next at round (Arrive at) _ _ _ its_step (may-arrive at) (λ q. refl)
       (round-some (kind_at f.floor at) round arrives-in) (round-else (kind_at f.floor at) round arrives-in)
       (ap (λ c. c.kinds) comes.board) comes waits)
-  arrive-by g None comes waits =
+  arrive-by g None comes waits told =
       let b : PlainFloor = with_less_room f.floor.board at in
       did a f next (Arrive at) can its_step (arrive_step a next at) (made_so (Some (Ended end.Crowded))) g
       (Ended end.Crowded)
       (record {
         later = arrive-later f.floor at a.place _ g.floor comes arrives-in can.stands.ready.job can.stands.ready.waits;
         answers = answer.come None comes.drew comes.with_it ∷ [];
+        told = told;
         plays = λ more. ap (made_so (Some (Ended end.Crowded))) (came-is f at round a.place b _ None g comes waits
             more);
       })
@@ -339,29 +354,31 @@ module _ (a : Actor) (f : Desk) (next at : ℕ) (can : CanAct a f.floor (Steppin
   -- the code counts the round from the steps before
   pub arrive-did : (g : Desk) (got known : Option FloorTake) (counted : ℕ) → Arrives f.floor at a.place got g.floor
       → got ≡ known → g.waits ≡ with_answer f.waits at counted a.place known
-      → counted ≡ count_by (is_arrival at) (take next a.job.now.steps)
+      → counted ≡ count_by (is_arrival at) (take next a.job.now.steps) → HasTold f.gate g.gate 1
       → Did a f (Stepping next) (arrive_step a next at) (made_so (stop_of next at counted known)) g
       (after_stop next (stop_of next at counted known))
-  arrive-did g got known counted comes is waits count =
+  arrive-did g got known counted comes is waits count told =
       let here : g.waits ≡ with_answer f.waits at round a.place got
       = waits ∙ ap (with_answer f.waits at counted a.place) (sym is)
       ∙ ap (λ r. with_answer f.waits at r a.place got) (count ∙ sym (can.rounds at)) in
       let Goal : ℕ → Option FloorTake → Type 0 = λ r o.
       Did a f (Stepping next) (arrive_step a next at) (made_so (stop_of next at r o)) g
       (after_stop next (stop_of next at r o)) in
-      subst (λ r. Goal r known) (can.rounds at ∙ sym count) (subst (Goal round) is (arrive-by g got comes here))
+      subst (λ r. Goal r known) (can.rounds at ∙ sym count) (subst (Goal round) is (arrive-by g got comes here told))
 
 -- a count down
 pub down-did : (a : Actor) (f g : Desk) (next at : ℕ) (got : FloorDown) → CanAct a f.floor (Stepping next)
     → slice_get a.job.now.steps next ≡ Some (Down at) → Downs f.floor at got g.floor → g.waits ≡ f.waits
+    → HasTold f.gate g.gate 1
     → Did a f (Stepping next) (count_down a at) same g (Stepping (next + 1))
-down-did a f g next at got can its_step downs waits =
+down-did a f g next at got can its_step downs waits told =
     let ready : IsReady f.floor.board a.place None (Down at ∷ drop (next + 1) a.job.now.steps)
     = step-ready a f.floor next (Down at) can its_step in
     did a f next (Down at) can its_step (count_down a at) same g (Stepping (next + 1))
     (record {
       later = down-later f.floor at got g.floor downs;
       answers = answer.counted got ∷ [];
+      told = told;
       plays = λ more. counted-is f (role a) at got g downs waits more;
     })
     (ap (λ c. c.kinds) downs.board)
@@ -388,14 +405,16 @@ given-keeps place f g at got gives waits =
 
 pub give-did : (a : Actor) (f g : Desk) (next at : ℕ) (got : SharedGive) → CanAct a f.floor (Stepping next)
     → slice_get a.job.now.steps next ≡ Some (Give at) → Gives f.floor at a.place got g.floor → g.waits ≡ f.waits
+    → HasTold f.gate g.gate 1
     → Did a f (Stepping next) (give_one a at) same g (Stepping (next + 1))
-give-did a f g next at got can its_step gives waits =
+give-did a f g next at got can its_step gives waits told =
     did a f next (Give at) can its_step (give_one a at) same g (Stepping (next + 1))
     (record {
       later = give-later f.floor at a.place got g.floor gives (give-resource a f.floor next at can its_step)
           can.stands.ready.job
           (give-holds a f.floor next at can its_step);
       answers = answer.gave got ∷ [];
+      told = told;
       plays = λ more. gave-is f (role a) at got g gives waits more;
     })
     (ap (λ c. c.kinds) gives.board)
@@ -421,7 +440,7 @@ work-did a f next turns can its_step =
     = step-ready a f.floor next (Work turns) can its_step in
     did a f next (Work turns) can its_step (make_step a next (Work turns))
     (made_so (Some (Working (next + 1) (a.turn + turns)))) f (Working (next + 1) (a.turn + turns))
-    (record { later = later-none f.floor; answers = []; plays = λ more. refl }) refl
+    (record { later = later-none f.floor; answers = []; told = told-none f.gate; plays = λ more. refl }) refl
     (record { job = ready.job; waits = ready.waits; holdable = ready.holdable; makeable = ready.makeable.1 })
     (rounds-kept a f.floor next (Work turns) can its_step (λ q. refl) f.floor.board (λ q. refl))
     (moves-past a.place f.floor.board f.floor.parties (Work turns) (drop (next + 1) a.job.now.steps))

@@ -155,6 +155,7 @@ module _ (plan : Plan) (a : Actor) (f : Desk) (states : List JobState) (state : 
     job-heard = record {
       later = acts.hears.later;
       answers = acts.hears.answers;
+      told = acts.hears.told;
       plays = λ rest. turn-is (heard f (acts.hears.answers ++ rest)) ∙ ap whole (acts.hears.plays rest)
           ∙ ap (λ p. machine_so p (heard g rest)) (sym progress-after);
     }
@@ -262,6 +263,7 @@ turns-on plan turn place f g k before now after on below job went =
     = record {
       later = job.later;
       answers = job.answers;
+      told = job.told;
       plays = λ more. unrolled plan turn place (machine_so now (heard g (job.answers ++ more))) below
           ∙ ap rest (job.plays more);
     } in

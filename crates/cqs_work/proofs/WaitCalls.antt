@@ -32,6 +32,7 @@ use Rattle.cqs_work.proofs.Adding.{call-keeps, looked-plain, left-plain}
 use Rattle.cqs_work.proofs.Causing.{adds-keeps, adds-as}
 use Rattle.cqs_work.proofs.LeaveAccounts.{leave-later}
 use Rattle.cqs_work.proofs.LookAccounts.{look-later}
+use Rattle.cqs_work.specs.Gated.{HasTold}
 use Rattle.cqs_work.proofs.HeardLemmas.{looked-is, left-is}
 use Rattle.cqs_work.proofs.Parties.{parties-more}
 use Rattle.cqs_work.proofs.Moving.{moves-none, moves-looked, looked-rounds, moves-left, moves-late}
@@ -51,10 +52,10 @@ looked-keeps place f g wait got looks kinds waits =
 
 pub pending-did : (a : Actor) (f g : Desk) (next at round number : ℕ) (got : FloorLook)
     → CanAct a f.floor (Waiting next at round number) → HasLooked f.floor a.place got g.floor
-    → g.waits ≡ f.waits → got ≡ Pending
+    → g.waits ≡ f.waits → HasTold f.gate g.gate 1 → got ≡ Pending
     → Did a f (Waiting next at round number) (look_at a next at round number)
     (left_so (Waiting next at round number)) g (Waiting next at round number)
-pending-did a f g next at round number got can looked waits is =
+pending-did a f g next at round number got can looked waits told is =
     let Same : FloorLook → Type 0 = λ o. Looks f.floor a.place (wait_at at round number) o g.floor in
     let looks : Looks f.floor a.place (wait_at at round number) Pending g.floor
     = subst Same is (look-by a f g next at round number got can looked) in
@@ -64,6 +65,7 @@ pending-did a f g next at round number got can looked waits is =
         later = look-later f.floor a.place (wait_at at round number) Pending g.floor looks can.stands.ready.job
             can.stands.ready.waits;
         answers = answer.looked Pending ∷ [];
+        told = told;
         plays = λ more. ap (left_so p) (looked-is f (role a) (wait_at at round number) Pending g looks waits more);
       };
       stands = record {
@@ -82,9 +84,9 @@ pending-did a f g next at round number got can looked waits is =
 
 pub granted-did : (a : Actor) (f g : Desk) (next at round number element : ℕ) (got : FloorLook)
     → CanAct a f.floor (Waiting next at round number) → HasLooked f.floor a.place got g.floor
-    → g.waits ≡ f.waits → got ≡ Granted element
+    → g.waits ≡ f.waits → HasTold f.gate g.gate 1 → got ≡ Granted element
     → Did a f (Waiting next at round number) (look_at a next at round number) (go_on a next) g (Stepping next)
-granted-did a f g next at round number element got can looked waits is =
+granted-did a f g next at round number element got can looked waits told is =
     let Same : FloorLook → Type 0 = λ o. Looks f.floor a.place (wait_at at round number) o g.floor in
     let looks : Looks f.floor a.place (wait_at at round number) (Granted element) g.floor
     = subst Same is (look-by a f g next at round number got can looked) in
@@ -98,6 +100,7 @@ granted-did a f g next at round number element got can looked waits is =
             (Granted element) g.floor looks can.stands.ready.job
             can.stands.ready.waits;
         answers = answer.looked (Granted element) ∷ [];
+        told = told;
         plays = λ more. ap (go_on a next) (looked-is f (role a) (wait_at at round number)
             (Granted element) g looks waits more);
       };
@@ -136,9 +139,9 @@ leave-moves place f wait (Late element) = moves-late place f.board f.parties ele
 
 pub leave-did : (a : Actor) (f g : Desk) (at round number : ℕ) (got : FloorLeave) (e : End)
     → Stands a f.floor (Some (wait_at at round number)) [] → HasLeft f.floor a.place got g.floor
-    → g.waits ≡ f.waits → e ≡ end_of got
+    → g.waits ≡ f.waits → HasTold f.gate g.gate 1 → e ≡ end_of got
     → GaveUp a f (leave_end a at round number) (ended_so e) g
-leave-did a f g at round number got e stands left waits is =
+leave-did a f g at round number got e stands left waits told is =
     let wait : JobWait = wait_at at round number in
     let leaves : Leaves f.floor a.place wait got g.floor = left.at wait stands.ready.waits in
     let moved : Moves a.place f.floor.board f.floor.parties [] (after_leave f.floor.board a.place got)
@@ -149,6 +152,7 @@ leave-did a f g at round number got e stands left waits is =
       hears = record {
         later = leave-later f.floor a.place wait got g.floor leaves stands.ready.job stands.ready.waits;
         answers = answer.left got leaves.stays ∷ [];
+        told = told;
         plays = λ more. ap (λ h. (h, end_of got)) (left-is f (role a) wait got g leaves waits more);
       };
       stands = record {

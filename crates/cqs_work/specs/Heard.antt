@@ -1,5 +1,5 @@
 -- The turn machine over a list of answers: what a worker heard from its floor.
-use Rattle.std.specs.Prelude.{◌≡◌, ℕ, Bool, true, false, ◌&&◌, List, [], ◌∷◌, ◌++◌, drop, map, Option, Some, None, slice_index_or, slice_set}
+use Rattle.std.specs.Prelude.{◌≡◌, ℕ, Bool, true, false, ◌&&◌, List, [], ◌∷◌, ◌++◌, drop, length, map, Option, Some, None, slice_index_or, slice_set}
 use Rattle.cqs_plan.specs.declared.plans.kind.Kind.{Kind}
 use Rattle.cqs_plan.specs.declared.plans.kind.Kind.TheVariants as kind
 use Rattle.cqs_plan.specs.declared.floors.answers.FloorTake.{FloorTake}
@@ -23,6 +23,7 @@ use Rattle.cqs_floor_shared.specs.Shared.{kind_in}
 use Rattle.cqs_floor_shared.specs.Calls.{board_taken, board_waited, board_arrived, board_given, element_held}
 use Rattle.cqs_work.specs.declared.waits.Waited.{Waited}
 use Rattle.cqs_work.specs.Desk.{Desk, with_answer}
+use Rattle.cqs_work.specs.Gated.{HasTold}
 use Rattle.cqs_work.specs.Later.{Later}
 
 -- what a call was answered
@@ -247,8 +248,9 @@ heard d answers = record {
 }
 
 -- Between f and g, which is later, the calls of `go` were answered, and then `after` is left: there
--- is a list of the answers, one for each call.
+-- is a list of the answers, one for each call. The gate was told of as many.
 pub record Hears {X : Type 0} (f g : Desk) (go after : Heard → X) : Type 0 where
   pub later : Later f.floor g.floor
   pub answers : List Answer
+  pub told : HasTold f.gate g.gate (length answers)
   pub plays : (rest : List Answer) → go (heard f (answers ++ rest)) ≡ after (heard g rest)

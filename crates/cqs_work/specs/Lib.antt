@@ -1,6 +1,7 @@
 pub mod Even
 pub mod Accounts
 pub mod Later
+pub mod Gated
 pub mod Desk
 pub mod Hands
 pub mod Noted

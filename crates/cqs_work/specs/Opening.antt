@@ -66,3 +66,4 @@ pub record ArePosts {F : Type 0} (jobs workers : ℕ) (floors : List F) (posts :
   pub its_floor : (i : ℕ) (post : Post F) → slice_get posts i ≡ Some post
       → slice_get floors i ≡ Some post.floor
   pub states : EachAt (λ worker post. AreStarting jobs workers worker post.states.items) posts
+  pub numbers : EachAt (λ worker post. post.worker ≡ worker) posts

@@ -26,6 +26,7 @@ use Rattle.cqs_work.specs.Accounts.{sum_in}
 use Rattle.cqs_work.specs.Causes.{HasCause}
 use Rattle.cqs_work.specs.Desk.{Desk, desk}
 use Rattle.cqs_work.specs.Ends.{job_end, is_done}
+use Rattle.cqs_work.specs.Gated.{calls_on, untold}
 use Rattle.cqs_work.specs.Noted.{Draw, draws_in, HasPermits}
 use Rattle.cqs_work.specs.Rows.{WasTold, lines_at}
 use Rattle.cqs_work.specs.Takes.{takes, take_steps}
@@ -106,7 +107,7 @@ pub record AreBounded (plan : Plan) (floors : List Shared) (final : Shared) (end
 -- what a worker's pass would have seen, had it seen all
 abbrev pub seeing_all : Shared → Shared → Heard → Desk
 seeing_all f final h =
-    desk (record final { number = f.number; limits = f.limits; came = h.came }) h.waits
+    desk (record final { number = f.number; limits = f.limits; came = h.came }) h.waits untold
 
 -- Of one worker: there are the answers to the calls of its turns and of those after the last turn,
 -- one for each call, from which the machine leaves the jobs so far, and its own have these ends.
@@ -121,7 +122,7 @@ pub record IsTold (plan : Plan) (workers worker : ℕ) (f final : Shared) (ends 
   pub mid : Heard
   pub end : Heard
   pub turns : turns_of plan plan.turns (dealt plan workers worker)
-      (heard (desk f []) (answers ++ after_last)) ≡ machine_so progress mid
+      (heard (desk f [] untold) (answers ++ after_last)) ≡ machine_so progress mid
   pub closing : close_all plan progress mid ≡ end
   pub all_used : end.answers ≡ []
   pub of_its_kind : end.fits ≡ true
@@ -138,6 +139,21 @@ pub record IsTold (plan : Plan) (workers worker : ℕ) (f final : Shared) (ends 
 abbrev pub AreTold : Plan → List Shared → Shared → List JobEnd → List WaitLine → Type 0
 AreTold plan floors final ends lines =
     EachAt (λ worker f. IsTold plan (length floors) worker f final ends lines) floors
+
+-- Of one worker, whose gate was told of its calls as `told` says: it was told of each of them,
+-- before the call was made and after, by the numbers from 1 on.
+pub record IsGated (plan : Plan) (workers worker : ℕ) (f final : Shared) (ends : List JobEnd)
+    (lines : List WaitLine) (told : ℕ → Bool) : Type 0 where
+  pub by_answers : IsTold plan workers worker f final ends lines
+  pub each : (call : ℕ) → 0 < call
+      → call ≤ calls_on (length (by_answers.answers ++ by_answers.after_last)) 0
+      → told call ≡ true
+
+-- of each worker
+abbrev pub AreGated : Plan → List Shared → Shared → List JobEnd → List WaitLine → (ℕ → ℕ → Bool)
+    → Type 0
+AreGated plan floors final ends lines told =
+    EachAt (λ worker f. IsGated plan (length floors) worker f final ends lines (told worker)) floors
 
 -- A resource is quiet: of a semaphore or a mutex nothing is held, on its way, at the door or in the
 -- line, and of a pool nothing is held or in the line.

@@ -1,5 +1,5 @@
 -- What a worker's whole work is.
-use Rattle.std.specs.Prelude.{◌≡◌, ℕ, zero, suc, ◌+◌, ◌<◌, List, [], ◌∷◌, Some, None, Result, IfOk, length, map, slice_get, slice_index_or}
+use Rattle.std.specs.Prelude.{◌≡◌, ℕ, zero, suc, ◌+◌, ◌<◌, Bool, List, [], ◌∷◌, Some, None, Result, IfOk, length, map, slice_get, slice_index_or}
 use Rattle.std.specs.Option.{option_map_or}
 use Rattle.cqs_core.specs.declared.Memory.{Memory}
 use Rattle.cqs_plan.specs.declared.plans.job.Job.{Job}
@@ -16,12 +16,14 @@ use Rattle.cqs_turns_report.specs.Machine as machine
 use Rattle.cqs_turns_report.specs.Ready.{IsReady, wait_in, steps_left}
 use Rattle.cqs_turns_report.specs.Roles.{role}
 use Rattle.cqs_turns_report.specs.Turns.{places_held}
+use Rattle.cqs_work.specs.declared.waits.Waited.{Waited}
 use Rattle.cqs_work.specs.declared.works.Post.{Post}
 use Rattle.cqs_work.specs.declared.works.Worker.{Worker}
 use Rattle.cqs_floor_shared.specs.Shared.{Shared}
 use Rattle.cqs_work.specs.Adds.{Keeps}
 use Rattle.cqs_work.specs.Courses.{Went}
-use Rattle.cqs_work.specs.Desk.{Desk, desk}
+use Rattle.cqs_work.specs.Desk.{Desk, desk, fresh_desk}
+use Rattle.cqs_work.specs.Gated.{Gated}
 use Rattle.cqs_work.specs.Heard.{Heard, Hears, heard_world}
 use Rattle.cqs_work.specs.Roles.{same}
 use Rattle.cqs_work.specs.Needs.{AreProvided, IsInRounds}
@@ -126,10 +128,16 @@ pub record HasWorked (plan : Plan) (f : Desk) (states ends : List JobState) (g :
   pub keeps : Keeps last g
   pub clear : AllClear plan g.floor
 
--- each worker has worked from its post
-pub record AllWorked {F : Type 0} (shared : F → Shared) (plan : Plan) (posts : List (Post F))
-    (all : List (Result (Worker F) Memory)) : Type 0 where
+-- A worker's work, which left this floor and these waits.
+pub record HasWorkedOn (plan : Plan) (f : Desk) (states ends : List JobState) (floor : Shared)
+    (waits : List Waited) : Type 0 where
+  pub gate : Gated
+  pub works : HasWorked plan f states ends (desk floor waits gate)
+
+-- each worker has worked from its post, and its gate was told of its calls as `told` says
+pub record AllWorked {F : Type 0} (shared : F → Shared) (told : ℕ → ℕ → Bool) (plan : Plan)
+    (posts : List (Post F)) (all : List (Result (Worker F) Memory)) : Type 0 where
   pub at : (i : ℕ) (post : Post F) (r : Result (Worker F) Memory) → slice_get posts i ≡ Some post
       → slice_get all i ≡ Some r
-      → IfOk r (λ worker. HasWorked plan (desk (shared post.floor) []) post.states.items
-      worker.states.items (desk (shared worker.floor) worker.waits.items))
+      → IfOk r (λ worker. HasWorkedOn plan (fresh_desk (shared post.floor) (told post.worker))
+      post.states.items worker.states.items (shared worker.floor) worker.waits.items)

@@ -31,8 +31,9 @@ pub fn give_all<R: Threads + Wait, G: Gate, F: SharedFloor>(
 )
     requires held { held.old.items ≡ places_held (F.shared clerk.old.floor).board actor.now.place }
     requires stands { Stands actor.now (F.shared clerk.old.floor) None [] }
-    ensures did { GaveUp actor.now (at_hand F.shared clerk.old) (give_each actor.now held.old.items)
-        same (at_hand F.shared clerk.new) }
+    ensures did { GaveUp actor.now
+        (at_hand F.shared G.begun G.ended clerk.old) (give_each actor.now held.old.items)
+        same (at_hand F.shared G.begun G.ended clerk.new) }
     ensures held { held.new.items ≡ places_held (F.shared clerk.new.floor).board actor.now.place }
     ensures clear { IsClear (F.shared clerk.new.floor).board actor.now.place }
 {
@@ -50,8 +51,9 @@ fn finish<R: Threads + Wait, G: Gate, F: SharedFloor>(
 ) -> Progress
     requires held { held.old.items ≡ places_held (F.shared clerk.old.floor).board actor.now.place }
     requires stands { Stands actor.now (F.shared clerk.old.floor) None [] }
-    ensures did { GaveUp actor.now (at_hand F.shared clerk.old) (finish actor.now) (left_so result)
-        (at_hand F.shared clerk.new) }
+    ensures did { GaveUp actor.now
+        (at_hand F.shared G.begun G.ended clerk.old) (finish actor.now) (left_so result)
+        (at_hand F.shared G.begun G.ended clerk.new) }
     ensures is { result ≡ Progress.Ended End.Done }
     ensures held { held.new.items ≡ places_held (F.shared clerk.new.floor).board actor.now.place }
 {
@@ -70,9 +72,9 @@ fn take<R: Threads + Wait, G: Gate, F: SharedFloor>(
     requires held { held.old.items ≡ places_held (F.shared clerk.old.floor).board actor.now.place }
     requires can { CanAct actor.now (F.shared clerk.old.floor) (Progress.Stepping next) }
     requires step { slice_get actor.now.job.now.steps next ≡ Some (Step.Take at) }
-    ensures did { IfOk result (λ stops. Did actor.now (at_hand F.shared clerk.old)
+    ensures did { IfOk result (λ stops. Did actor.now (at_hand F.shared G.begun G.ended clerk.old)
         (Progress.Stepping next) (take_step actor.now next at) (made_so stops)
-        (at_hand F.shared clerk.new) (after_stop next stops)) }
+        (at_hand F.shared G.begun G.ended clerk.new) (after_stop next stops)) }
     ensures held { OnOk result (held.new.items
         ≡ places_held (F.shared clerk.new.floor).board actor.now.place) }
 {
@@ -122,8 +124,10 @@ fn give<R: Threads + Wait, G: Gate, F: SharedFloor>(
     requires held { held.old.items ≡ places_held (F.shared clerk.old.floor).board actor.now.place }
     requires can { CanAct actor.now (F.shared clerk.old.floor) (Progress.Stepping next) }
     requires step { slice_get actor.now.job.now.steps next ≡ Some (Step.Give at) }
-    ensures did { Did actor.now (at_hand F.shared clerk.old) (Progress.Stepping next)
-        (give_one actor.now at) same (at_hand F.shared clerk.new) (after_stop next None) }
+    ensures did { Did actor.now
+        (at_hand F.shared G.begun G.ended clerk.old) (Progress.Stepping next)
+        (give_one actor.now at) same
+        (at_hand F.shared G.begun G.ended clerk.new) (after_stop next None) }
     ensures held { held.new.items ≡ places_held (F.shared clerk.new.floor).board actor.now.place }
 {
     clerk.give(at, actor.place);
@@ -139,8 +143,10 @@ fn down<R: Threads + Wait, G: Gate, F: SharedFloor>(
 )
     requires can { CanAct actor.now (F.shared clerk.old.floor) (Progress.Stepping next) }
     requires step { slice_get actor.now.job.now.steps next ≡ Some (Step.Down at) }
-    ensures did { Did actor.now (at_hand F.shared clerk.old) (Progress.Stepping next)
-        (count_down actor.now at) same (at_hand F.shared clerk.new) (after_stop next None) }
+    ensures did { Did actor.now
+        (at_hand F.shared G.begun G.ended clerk.old) (Progress.Stepping next)
+        (count_down actor.now at) same
+        (at_hand F.shared G.begun G.ended clerk.new) (after_stop next None) }
     ensures held { places_held (F.shared clerk.new.floor).board actor.now.place
         ≡ places_held (F.shared clerk.old.floor).board actor.now.place }
 {
@@ -156,9 +162,9 @@ fn wait<R: Threads + Wait, G: Gate, F: SharedFloor>(
 ) -> Result<Option<Progress>, Memory>
     requires can { CanAct actor.now (F.shared clerk.old.floor) (Progress.Stepping next) }
     requires step { slice_get actor.now.job.now.steps next ≡ Some (Step.Await at) }
-    ensures did { IfOk result (λ stops. Did actor.now (at_hand F.shared clerk.old)
+    ensures did { IfOk result (λ stops. Did actor.now (at_hand F.shared G.begun G.ended clerk.old)
         (Progress.Stepping next) (wait_step actor.now next at) (made_so stops)
-        (at_hand F.shared clerk.new) (after_stop next stops)) }
+        (at_hand F.shared G.begun G.ended clerk.new) (after_stop next stops)) }
     ensures held { OnOk result (places_held (F.shared clerk.new.floor).board actor.now.place
         ≡ places_held (F.shared clerk.old.floor).board actor.now.place) }
 {
@@ -186,9 +192,9 @@ fn arrive<R: Threads + Wait, G: Gate, F: SharedFloor>(
 ) -> Result<Option<Progress>, Memory>
     requires can { CanAct actor.now (F.shared clerk.old.floor) (Progress.Stepping next) }
     requires step { slice_get actor.now.job.now.steps next ≡ Some (Step.Arrive at) }
-    ensures did { IfOk result (λ stops. Did actor.now (at_hand F.shared clerk.old)
+    ensures did { IfOk result (λ stops. Did actor.now (at_hand F.shared G.begun G.ended clerk.old)
         (Progress.Stepping next) (arrive_step actor.now next at) (made_so stops)
-        (at_hand F.shared clerk.new) (after_stop next stops)) }
+        (at_hand F.shared G.begun G.ended clerk.new) (after_stop next stops)) }
     ensures held { OnOk result (places_held (F.shared clerk.new.floor).board actor.now.place
         ≡ places_held (F.shared clerk.old.floor).board actor.now.place) }
 {
@@ -219,9 +225,9 @@ fn make_step<R: Threads + Wait, G: Gate, F: SharedFloor>(
     requires held { held.old.items ≡ places_held (F.shared clerk.old.floor).board actor.now.place }
     requires can { CanAct actor.now (F.shared clerk.old.floor) (Progress.Stepping next) }
     requires step { slice_get actor.now.job.now.steps next ≡ Some step }
-    ensures did { IfOk result (λ stops. Did actor.now (at_hand F.shared clerk.old)
+    ensures did { IfOk result (λ stops. Did actor.now (at_hand F.shared G.begun G.ended clerk.old)
         (Progress.Stepping next) (make_step actor.now next step) (made_so stops)
-        (at_hand F.shared clerk.new) (after_stop next stops)) }
+        (at_hand F.shared G.begun G.ended clerk.new) (after_stop next stops)) }
     ensures held { OnOk result (held.new.items
         ≡ places_held (F.shared clerk.new.floor).board actor.now.place) }
 {
@@ -253,9 +259,10 @@ fn make_steps<R: Threads + Wait, G: Gate, F: SharedFloor>(
 ) -> Result<Progress, Memory>
     requires held { held.old.items ≡ places_held (F.shared clerk.old.floor).board actor.now.place }
     requires can { CanAct actor.now (F.shared clerk.old.floor) (Progress.Stepping first) }
-    ensures did { IfOk result (λ progress. Did actor.now (at_hand F.shared clerk.old)
+    ensures did { IfOk result (λ progress. Did actor.now
+        (at_hand F.shared G.begun G.ended clerk.old)
         (Progress.Stepping first) (go_on actor.now first) (left_so progress)
-        (at_hand F.shared clerk.new) progress) }
+        (at_hand F.shared G.begun G.ended clerk.new) progress) }
     ensures held { OnOk result (held.new.items
         ≡ places_held (F.shared clerk.new.floor).board actor.now.place) }
 {
@@ -312,10 +319,12 @@ pub fn leave<R: Threads + Wait, G: Gate, F: SharedFloor>(
     requires held { held.old.items ≡ places_held (F.shared clerk.old.floor).board actor.now.place }
     requires stands { Stands actor.now (F.shared clerk.old.floor)
         (Some (wait_at at round number)) [] }
-    ensures did { IfOk result (λ end. GaveUp actor.now (at_hand F.shared clerk.old)
-        (leave_end actor.now at round number) (ended_so end) (at_hand F.shared clerk.new)) }
+    ensures did { IfOk result (λ end. GaveUp actor.now (at_hand F.shared G.begun G.ended clerk.old)
+        (leave_end actor.now at round number) (ended_so end)
+        (at_hand F.shared G.begun G.ended clerk.new)) }
     ensures ends { IfOk result (λ end. EndsSo actor.now.place at round number
-        (at_hand F.shared clerk.old) (at_hand F.shared clerk.new) end) }
+        (at_hand F.shared G.begun G.ended clerk.old)
+        (at_hand F.shared G.begun G.ended clerk.new) end) }
     ensures held { OnOk result (held.new.items
         ≡ places_held (F.shared clerk.new.floor).board actor.now.place) }
 {
@@ -335,11 +344,12 @@ fn give_up<R: Threads + Wait, G: Gate, F: SharedFloor>(
     requires held { held.old.items ≡ places_held (F.shared clerk.old.floor).board actor.now.place }
     requires stands { Stands actor.now (F.shared clerk.old.floor)
         (Some (wait_at at round number)) [] }
-    ensures did { IfOk result (λ end. GaveUp actor.now (at_hand F.shared clerk.old)
+    ensures did { IfOk result (λ end. GaveUp actor.now (at_hand F.shared G.begun G.ended clerk.old)
         (give_up actor.now at round number) (left_so (Progress.Ended end))
-        (at_hand F.shared clerk.new)) }
+        (at_hand F.shared G.begun G.ended clerk.new)) }
     ensures ends { IfOk result (λ end. EndsSo actor.now.place at round number
-        (at_hand F.shared clerk.old) (at_hand F.shared clerk.new) end) }
+        (at_hand F.shared G.begun G.ended clerk.old)
+        (at_hand F.shared G.begun G.ended clerk.new) end) }
     ensures held { OnOk result (held.new.items
         ≡ places_held (F.shared clerk.new.floor).board actor.now.place) }
 {
@@ -361,9 +371,10 @@ fn look<R: Threads + Wait, G: Gate, F: SharedFloor>(
     requires held { held.old.items ≡ places_held (F.shared clerk.old.floor).board actor.now.place }
     requires can { CanAct actor.now (F.shared clerk.old.floor)
         (Progress.Waiting next at round number) }
-    ensures did { IfOk result (λ progress. Did actor.now (at_hand F.shared clerk.old)
+    ensures did { IfOk result (λ progress. Did actor.now
+        (at_hand F.shared G.begun G.ended clerk.old)
         (Progress.Waiting next at round number) (look_at actor.now next at round number)
-        (left_so progress) (at_hand F.shared clerk.new) progress) }
+        (left_so progress) (at_hand F.shared G.begun G.ended clerk.new) progress) }
     ensures held { OnOk result (held.new.items
         ≡ places_held (F.shared clerk.new.floor).board actor.now.place) }
 {
@@ -391,9 +402,10 @@ fn work<R: Threads + Wait, G: Gate, F: SharedFloor>(
 ) -> Result<Progress, Memory>
     requires held { held.old.items ≡ places_held (F.shared clerk.old.floor).board actor.now.place }
     requires can { CanAct actor.now (F.shared clerk.old.floor) (Progress.Working next until) }
-    ensures did { IfOk result (λ progress. Did actor.now (at_hand F.shared clerk.old)
+    ensures did { IfOk result (λ progress. Did actor.now
+        (at_hand F.shared G.begun G.ended clerk.old)
         (Progress.Working next until) (act actor.now (Progress.Working next until))
-        (left_so progress) (at_hand F.shared clerk.new) progress) }
+        (left_so progress) (at_hand F.shared G.begun G.ended clerk.new) progress) }
     ensures held { OnOk result (held.new.items
         ≡ places_held (F.shared clerk.new.floor).board actor.now.place) }
 {
@@ -416,10 +428,11 @@ fn wait_on<R: Threads + Wait, G: Gate, F: SharedFloor>(
     requires held { held.old.items ≡ places_held (F.shared clerk.old.floor).board actor.now.place }
     requires can { CanAct actor.now (F.shared clerk.old.floor)
         (Progress.Waiting next at round number) }
-    ensures did { IfOk result (λ progress. Did actor.now (at_hand F.shared clerk.old)
+    ensures did { IfOk result (λ progress. Did actor.now
+        (at_hand F.shared G.begun G.ended clerk.old)
         (Progress.Waiting next at round number)
         (act actor.now (Progress.Waiting next at round number))
-        (left_so progress) (at_hand F.shared clerk.new) progress) }
+        (left_so progress) (at_hand F.shared G.begun G.ended clerk.new) progress) }
     ensures held { OnOk result (held.new.items
         ≡ places_held (F.shared clerk.new.floor).board actor.now.place) }
 {
@@ -439,8 +452,10 @@ fn go_from<R: Threads + Wait, G: Gate, F: SharedFloor>(
 ) -> Result<Progress, Memory>
     requires held { held.old.items ≡ places_held (F.shared clerk.old.floor).board actor.now.place }
     requires can { CanAct actor.now (F.shared clerk.old.floor) progress }
-    ensures did { IfOk result (λ later. Did actor.now (at_hand F.shared clerk.old) progress
-        (act actor.now progress) (left_so later) (at_hand F.shared clerk.new) later) }
+    ensures did { IfOk result (λ later. Did actor.now
+        (at_hand F.shared G.begun G.ended clerk.old) progress
+        (act actor.now progress) (left_so later)
+        (at_hand F.shared G.begun G.ended clerk.new) later) }
     ensures held { OnOk result (held.new.items
         ≡ places_held (F.shared clerk.new.floor).board actor.now.place) }
 {
@@ -466,9 +481,10 @@ pub fn act<R: Threads + Wait, G: Gate, F: SharedFloor>(
     requires held { state.old.held.items
         ≡ places_held (F.shared clerk.old.floor).board actor.now.place }
     requires can { CanAct actor.now (F.shared clerk.old.floor) state.old.progress }
-    ensures did { OnOk result (Did actor.now (at_hand F.shared clerk.old) state.old.progress
+    ensures did { OnOk result (Did actor.now
+        (at_hand F.shared G.begun G.ended clerk.old) state.old.progress
         (act actor.now state.old.progress) (left_so state.new.progress)
-        (at_hand F.shared clerk.new) state.new.progress) }
+        (at_hand F.shared G.begun G.ended clerk.new) state.new.progress) }
     ensures held { OnOk result (state.new.held.items
         ≡ places_held (F.shared clerk.new.floor).board actor.now.place) }
 {

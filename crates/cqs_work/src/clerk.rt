@@ -1,9 +1,11 @@
 //! A worker's way to its floor: each call goes through the gate.
 
-ghost use Rattle.std.specs.Prelude.{◌≡◌, ◌<◌};
+ghost use Rattle.std.specs.Prelude.{◌≡◌, ◌<◌, true};
 ghost use Rattle.cqs_plan.specs.Floor.{IsJob, IsHolding, IsWaiting, IsIdle, IsHoldable, IsLatch, HasRound, room_at, round_of};
 ghost use Rattle.cqs_floor_shared.specs.Shared.{kind_at, parties_at};
 ghost use Rattle.cqs_floor_shared.specs.Calls.{Takes, Gives, HasLooked, HasLeft, Downs, Waits, Arrives, answer_of};
+ghost use Rattle.cqs_work.specs.Gated.{HasTold, next_call};
+ghost use Rattle.cqs_work.specs.Hands.{gate_of};
 
 use crate::gate::Gate;
 use crate::waits::Waited;
@@ -29,12 +31,18 @@ impl<R: Threads + Wait, G: Gate, F: SharedFloor> Clerk<'_, R, G, F> {
     fn start_call(&mut self)
         ensures floor { self.new.floor ≡ self.old.floor }
         ensures waits { self.new.waits.items ≡ self.old.waits.items }
+        ensures worker { self.new.worker ≡ self.old.worker }
+        ensures gate { self.new.gate.now ≡ self.old.gate.now }
+        ensures call { self.new.calls ≡ next_call self.old.calls }
+        ensures begun { G.begun self.new.gate.now self.new.worker self.new.calls ≡ true }
     {
         self.calls = self.calls.saturating_add(1);
         self.gate.before(self.rt, self.worker, self.calls);
     }
 
-    fn end_call(&self) {
+    fn end_call(&self)
+        ensures { G.ended self.now.gate.now self.now.worker self.now.calls ≡ true }
+    {
         self.gate.after(self.rt, self.worker, self.calls);
     }
 
@@ -46,6 +54,8 @@ impl<R: Threads + Wait, G: Gate, F: SharedFloor> Clerk<'_, R, G, F> {
         ensures takes { Takes (F.shared self.old.floor) at job (answer_of result)
             (F.shared self.new.floor) }
         ensures waits { self.new.waits.items ≡ self.old.waits.items }
+        ensures told { HasTold (gate_of G.begun G.ended self.old)
+            (gate_of G.begun G.ended self.new) 1 }
     {
         self.start_call();
         let answer = self.floor.take(self.rt, at, job);
@@ -59,6 +69,8 @@ impl<R: Threads + Wait, G: Gate, F: SharedFloor> Clerk<'_, R, G, F> {
         requires holds { IsHolding (F.shared self.old.floor).board at job }
         ensures gives { Gives (F.shared self.old.floor) at job result (F.shared self.new.floor) }
         ensures waits { self.new.waits.items ≡ self.old.waits.items }
+        ensures told { HasTold (gate_of G.begun G.ended self.old)
+            (gate_of G.begun G.ended self.new) 1 }
     {
         self.start_call();
         let answer = self.floor.give(self.rt, at, job);
@@ -71,6 +83,8 @@ impl<R: Threads + Wait, G: Gate, F: SharedFloor> Clerk<'_, R, G, F> {
         requires waits { IsWaiting (F.shared self.old.floor).board job }
         ensures looks { HasLooked (F.shared self.old.floor) job result (F.shared self.new.floor) }
         ensures waits { self.new.waits.items ≡ self.old.waits.items }
+        ensures told { HasTold (gate_of G.begun G.ended self.old)
+            (gate_of G.begun G.ended self.new) 1 }
     {
         self.start_call();
         let answer = self.floor.look(self.rt, job);
@@ -83,6 +97,8 @@ impl<R: Threads + Wait, G: Gate, F: SharedFloor> Clerk<'_, R, G, F> {
         requires waits { IsWaiting (F.shared self.old.floor).board job }
         ensures leaves { HasLeft (F.shared self.old.floor) job result (F.shared self.new.floor) }
         ensures waits { self.new.waits.items ≡ self.old.waits.items }
+        ensures told { HasTold (gate_of G.begun G.ended self.old)
+            (gate_of G.begun G.ended self.new) 1 }
     {
         self.start_call();
         let answer = self.floor.leave(self.rt, job);
@@ -94,6 +110,8 @@ impl<R: Threads + Wait, G: Gate, F: SharedFloor> Clerk<'_, R, G, F> {
         requires resource { IsLatch (kind_at (F.shared self.old.floor) at) }
         ensures downs { Downs (F.shared self.old.floor) at result (F.shared self.new.floor) }
         ensures waits { self.new.waits.items ≡ self.old.waits.items }
+        ensures told { HasTold (gate_of G.begun G.ended self.old)
+            (gate_of G.begun G.ended self.new) 1 }
     {
         self.start_call();
         let answer = self.floor.down(self.rt, at);
@@ -109,6 +127,8 @@ impl<R: Threads + Wait, G: Gate, F: SharedFloor> Clerk<'_, R, G, F> {
         ensures comes { Waits (F.shared self.old.floor) at job (answer_of result)
             (F.shared self.new.floor) }
         ensures waits { self.new.waits.items ≡ self.old.waits.items }
+        ensures told { HasTold (gate_of G.begun G.ended self.old)
+            (gate_of G.begun G.ended self.new) 1 }
     {
         self.start_call();
         let answer = self.floor.wait(self.rt, at, job);
@@ -127,6 +147,8 @@ impl<R: Threads + Wait, G: Gate, F: SharedFloor> Clerk<'_, R, G, F> {
         ensures comes { Arrives (F.shared self.old.floor) at job (answer_of result)
             (F.shared self.new.floor) }
         ensures waits { self.new.waits.items ≡ self.old.waits.items }
+        ensures told { HasTold (gate_of G.begun G.ended self.old)
+            (gate_of G.begun G.ended self.new) 1 }
     {
         self.start_call();
         let answer = self.floor.arrive(self.rt, at, job);

@@ -4,9 +4,10 @@ ghost use Rattle.std.specs.Prelude.{◌≡◌, ◌<◌, ◌++◌, ◌∷◌, [],
 ghost use Rattle.cqs_core.specs.Numbered.{EachAt};
 ghost use Rattle.cqs_plan.specs.Runnable.{IsRunnable};
 ghost use Rattle.cqs_work.specs.Ends.{job_end};
+ghost use Rattle.cqs_work.specs.Gated.{told_by};
 ghost use Rattle.cqs_work.specs.Met.{shared_of, CanMeetAll, HaveMetAll};
 ghost use Rattle.cqs_work.specs.Opening.{AreSplit};
-ghost use Rattle.cqs_work.specs.Worked.{AreParted, AreEnds, AreTold, AreWaits, AreBounded, HaveAllIn, AreQuiet};
+ghost use Rattle.cqs_work.specs.Worked.{AreParted, AreEnds, AreTold, AreGated, AreWaits, AreBounded, HaveAllIn, AreQuiet};
 
 use crate::ends::{JobEnd, JobEnds};
 use crate::gate::Gate;
@@ -140,6 +141,12 @@ pub fn work_plan<R: Threads + Wait + Sync, F: SharedFloor + Send + Drop, G: Gate
     // as GaveUp, Late or Crowded is in the histories.
     ensures told { IfOk result (λ worked. AreTold plan.now (shared_of F.shared floors.items)
         (F.shared worked.floor) worked.ends worked.waits) }
+
+    // The gate was told of each of these calls, before it was made and after, by the numbers from 1
+    // on.
+    ensures gate { IfOk result (λ worked. AreGated plan.now (shared_of F.shared floors.items)
+        (F.shared worked.floor) worked.ends worked.waits
+        (told_by G.begun G.ended gate.now)) }
 
     // The waits at each semaphore are the numbers that were drawn there, in order, each with a job
     // of the worker whose pass drew it.

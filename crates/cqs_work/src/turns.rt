@@ -51,12 +51,14 @@ fn one_job<R: Threads + Wait, G: Gate, F: SharedFloor>(
     requires runs { RunsOn plan.now (F.shared clerk.old.floor) states.old }
     requires turn { turn ≤ 40000 }
     requires place { place < length plan.now.jobs }
-    ensures heard { OnOk result (Hears (at_hand F.shared clerk.old) (at_hand F.shared clerk.new)
+    ensures heard { OnOk result (Hears (at_hand F.shared G.begun G.ended clerk.old)
+        (at_hand F.shared G.begun G.ended clerk.new)
         (job_turn_so plan.now turn place (progress_of states.old))
         (machine_so (progress_of states.new))) }
     ensures runs { OnOk result (RunsOn plan.now (F.shared clerk.new.floor) states.new) }
-    ensures went { OnOk result (Went plan.now (at_hand F.shared clerk.old)
-        (progress_of states.old) (at_hand F.shared clerk.new) (progress_of states.new)) }
+    ensures went { OnOk result (Went plan.now (at_hand F.shared G.begun G.ended clerk.old)
+        (progress_of states.old)
+        (at_hand F.shared G.begun G.ended clerk.new) (progress_of states.new)) }
 {
     let actor = actor_at(plan, turn, place);
     act(clerk, &actor, &mut states[place as usize])
@@ -72,11 +74,13 @@ fn one_turn<R: Threads + Wait, G: Gate, F: SharedFloor>(
     requires runnable { IsRunnable plan.now }
     requires runs { RunsOn plan.now (F.shared clerk.old.floor) states.old }
     requires turn { turn ≤ 40000 }
-    ensures heard { OnOk result (Hears (at_hand F.shared clerk.old) (at_hand F.shared clerk.new)
+    ensures heard { OnOk result (Hears (at_hand F.shared G.begun G.ended clerk.old)
+        (at_hand F.shared G.begun G.ended clerk.new)
         (turn_so plan.now turn (progress_of states.old)) (machine_so (progress_of states.new))) }
     ensures runs { OnOk result (RunsOn plan.now (F.shared clerk.new.floor) states.new) }
-    ensures went { OnOk result (Went plan.now (at_hand F.shared clerk.old)
-        (progress_of states.old) (at_hand F.shared clerk.new) (progress_of states.new)) }
+    ensures went { OnOk result (Went plan.now (at_hand F.shared G.begun G.ended clerk.old)
+        (progress_of states.old)
+        (at_hand F.shared G.begun G.ended clerk.new) (progress_of states.new)) }
 {
     for place in 0..plan.jobs.as_slice().len() {
         one_job(clerk, plan, turn, place as u32, states)?;
@@ -92,12 +96,14 @@ pub fn all_turns<R: Threads + Wait, G: Gate, F: SharedFloor>(
 ) -> Result<(), Memory>
     requires runnable { IsRunnable plan.now }
     requires runs { RunsOn plan.now (F.shared clerk.old.floor) states.old }
-    ensures heard { OnOk result (Hears (at_hand F.shared clerk.old) (at_hand F.shared clerk.new)
+    ensures heard { OnOk result (Hears (at_hand F.shared G.begun G.ended clerk.old)
+        (at_hand F.shared G.begun G.ended clerk.new)
         (turns_of plan.now plan.now.turns (progress_of states.old))
         (machine_so (progress_of states.new))) }
     ensures runs { OnOk result (RunsOn plan.now (F.shared clerk.new.floor) states.new) }
-    ensures went { OnOk result (Went plan.now (at_hand F.shared clerk.old)
-        (progress_of states.old) (at_hand F.shared clerk.new) (progress_of states.new)) }
+    ensures went { OnOk result (Went plan.now (at_hand F.shared G.begun G.ended clerk.old)
+        (progress_of states.old)
+        (at_hand F.shared G.begun G.ended clerk.new) (progress_of states.new)) }
 {
     for turn in 0..plan.turns {
         one_turn(clerk, plan, turn, states)?;
@@ -115,8 +121,9 @@ fn leave_line<R: Threads + Wait, G: Gate, F: SharedFloor>(
         ≡ places_held (F.shared clerk.old.floor).board actor.now.place }
     requires stands { Stands actor.now (F.shared clerk.old.floor)
         (wait_in state.old.progress) [] }
-    ensures did { OnOk result (GaveUp actor.now (at_hand F.shared clerk.old)
-        (line_left_so actor.now state.old.progress) same (at_hand F.shared clerk.new)) }
+    ensures did { OnOk result (GaveUp actor.now (at_hand F.shared G.begun G.ended clerk.old)
+        (line_left_so actor.now state.old.progress) same
+        (at_hand F.shared G.begun G.ended clerk.new)) }
     ensures held { OnOk result (state.new.held.items
         ≡ places_held (F.shared clerk.new.floor).board actor.now.place) }
     ensures progress { state.new.progress ≡ state.old.progress }
@@ -145,8 +152,8 @@ fn close_job<R: Threads + Wait, G: Gate, F: SharedFloor>(
         ≡ places_held (F.shared clerk.old.floor).board actor.now.place }
     requires stands { Stands actor.now (F.shared clerk.old.floor)
         (wait_in state.old.progress) [] }
-    ensures did { OnOk result (GaveUp actor.now (at_hand F.shared clerk.old)
-        (close actor.now state.old.progress) same (at_hand F.shared clerk.new)) }
+    ensures did { OnOk result (GaveUp actor.now (at_hand F.shared G.begun G.ended clerk.old)
+        (close actor.now state.old.progress) same (at_hand F.shared G.begun G.ended clerk.new)) }
     ensures held { OnOk result (state.new.held.items
         ≡ places_held (F.shared clerk.new.floor).board actor.now.place) }
     ensures clear { OnOk result (IsClear (F.shared clerk.new.floor).board actor.now.place) }
@@ -165,10 +172,11 @@ pub fn close_jobs<R: Threads + Wait, G: Gate, F: SharedFloor>(
 ) -> Result<(), Memory>
     requires few { length plan.now.jobs ≤ 4096 }
     requires runs { RunsOn plan.now (F.shared clerk.old.floor) states.old }
-    ensures heard { OnOk result (Hears (at_hand F.shared clerk.old) (at_hand F.shared clerk.new)
+    ensures heard { OnOk result (Hears (at_hand F.shared G.begun G.ended clerk.old)
+        (at_hand F.shared G.begun G.ended clerk.new)
         (close_all plan.now (progress_of states.old)) same) }
-    ensures keeps { OnOk result (Keeps (at_hand F.shared clerk.old)
-        (at_hand F.shared clerk.new)) }
+    ensures keeps { OnOk result (Keeps (at_hand F.shared G.begun G.ended clerk.old)
+        (at_hand F.shared G.begun G.ended clerk.new)) }
     ensures clear { OnOk result (AllClear plan.now (F.shared clerk.new.floor)) }
     ensures progress { OnOk result (progress_of states.new ≡ progress_of states.old) }
 {

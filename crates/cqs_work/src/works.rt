@@ -1,10 +1,11 @@
 //! Workers beside each other.
 
-ghost use Rattle.std.specs.Prelude.{◌≡◌, [], All, IfOk, OnOk, vec_len};
+ghost use Rattle.std.specs.Prelude.{◌≡◌, All, IfOk, OnOk, vec_len};
 ghost use Rattle.cqs_plan.specs.Runnable.{IsRunnable};
-ghost use Rattle.cqs_work.specs.Desk.{desk};
+ghost use Rattle.cqs_work.specs.Desk.{fresh_desk};
+ghost use Rattle.cqs_work.specs.Gated.{told_by};
 ghost use Rattle.cqs_work.specs.Hands.{at_hand};
-ghost use Rattle.cqs_work.specs.Works.{RunsOn, HasWorked, AllWorked};
+ghost use Rattle.cqs_work.specs.Works.{RunsOn, HasWorkedOn, AllWorked};
 ghost use Rattle.cqs_work.specs.Met.{CanMeet, HaveMet, shared_of};
 
 use crate::clerk::Clerk;
@@ -46,8 +47,9 @@ fn work_on<R: Threads + Wait, G: Gate, F: SharedFloor>(
 ) -> Result<(), Memory>
     requires runnable { IsRunnable plan.now }
     requires runs { RunsOn plan.now (F.shared clerk.old.floor) states.old }
-    ensures { OnOk result (HasWorked plan.now (at_hand F.shared clerk.old) states.old states.new
-        (at_hand F.shared clerk.new)) }
+    ensures { OnOk result (HasWorkedOn plan.now
+        (at_hand F.shared G.begun G.ended clerk.old) states.old states.new
+        (F.shared clerk.new.floor) clerk.new.waits.items) }
 {
     all_turns(clerk, plan, states)?;
     close_jobs(clerk, plan, states)
@@ -63,9 +65,10 @@ fn work<R: Threads + Wait, G: Gate, F: SharedFloor + Drop>(
 ) -> Result<Worker<F>, Memory>
     requires runnable { IsRunnable plan.now }
     requires runs { RunsOn plan.now (F.shared post.floor) post.states.items }
-    ensures { IfOk result (λ worker. HasWorked plan.now (desk (F.shared post.floor) [])
-        post.states.items worker.states.items
-        (desk (F.shared worker.floor) worker.waits.items)) }
+    ensures { IfOk result
+        (λ worker. HasWorkedOn plan.now
+        (fresh_desk (F.shared post.floor) (told_by G.begun G.ended gate.now post.worker))
+        post.states.items worker.states.items (F.shared worker.floor) worker.waits.items) }
 {
     let Post {
         worker,
@@ -101,7 +104,8 @@ pub fn work_all<R: Threads + Wait + Sync, G: Gate + Sync, F: SharedFloor + Send 
     requires runs { All (λ post. RunsOn plan.now (F.shared post.floor) post.states.items)
         posts.items }
     ensures len { IfOk result (λ all. vec_len all ≡ vec_len posts) }
-    ensures each { IfOk result (λ all. AllWorked F.shared plan.now posts.items all.items) }
+    ensures each { IfOk result (λ all. AllWorked F.shared (told_by G.begun G.ended gate.now)
+        plan.now posts.items all.items) }
 {
     Ok(thread::map_vec(rt, posts, &|post| { work(rt, alloc, plan, gate, post) })?)
 }

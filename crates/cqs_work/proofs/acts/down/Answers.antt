@@ -13,7 +13,7 @@ pub returns-clause-did : goal.returns-clause-did
 returns-clause-did g c =
     down-did c.args.actor.now _ _ c.args.next c.args.at c.down.result c.requires.can c.requires.step
     c.down.ensures.downs
-    c.down.ensures.waits
+    c.down.ensures.waits c.down.ensures.told
 
 pub returns-clause-held : goal.returns-clause-held
 returns-clause-held g c = ap (λ b. places_held b c.args.actor.now.place) c.down.ensures.downs.board

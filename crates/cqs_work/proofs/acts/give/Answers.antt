@@ -15,7 +15,7 @@ pub returns-clause-did : goal.returns-clause-did
 returns-clause-did g c =
     give-did c.args.actor.now _ _ c.args.next c.args.at c.give.result c.requires.can c.requires.step
     c.give.ensures.gives
-    c.give.ensures.waits
+    c.give.ensures.waits c.give.ensures.told
 
 pub returns-clause-held : goal.returns-clause-held
 returns-clause-held g c =

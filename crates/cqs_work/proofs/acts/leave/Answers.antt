@@ -8,7 +8,7 @@ pub returns-clause-did : goal.returns-clause-did
 returns-clause-did g c =
     if-ok c.hold_late.result
     (λ end is. leave-did c.args.actor.now _ _ c.args.at c.args.round c.args.number c.leave-answer.result end
-    c.requires.stands c.leave-answer.ensures.leaves c.leave-answer.ensures.waits is)
+    c.requires.stands c.leave-answer.ensures.leaves c.leave-answer.ensures.waits c.leave-answer.ensures.told is)
     c.hold_late.ensures.end
 
 pub returns-clause-ends : goal.returns-clause-ends

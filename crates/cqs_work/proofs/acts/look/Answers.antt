@@ -1,7 +1,7 @@
 use Rattle.cqs_turns_report.specs.Roles.{wait_at}
 use Rattle.cqs_turns_report.proofs.Readied.{look-held}
 use Rattle.cqs_turns_report.specs.declared.states.Progress.TheVariants.{Stepping, Waiting}
-use Rattle.cqs_work.specs.Desk.{desk}
+use Rattle.cqs_work.specs.Hands.{at_hand}
 use Rattle.cqs_work.specs.Roles.{go_on, look_at, left_so}
 use Rattle.cqs_work.proofs.WaitCalls.{pending-did, granted-did}
 use Rattle.cqs_work.proofs.Acting.{did-then, can-then, if-ok}
@@ -22,17 +22,17 @@ make_steps-requires-clause-held g c =
 
 pub make_steps-requires-clause-can : goal.make_steps-requires-clause-can
 make_steps-requires-clause-can g c =
-    let f = desk (g.F.SharedFloor.shared c.args.clerk.now.floor) c.args.clerk.now.waits.items in
-    let k = desk (g.F.SharedFloor.shared c.look.new.self.floor) c.look.new.self.waits.items in
+    let f = at_hand g.F.SharedFloor.shared g.G.Gate.begun g.G.Gate.ended c.args.clerk.now in
+    let k = at_hand g.F.SharedFloor.shared g.G.Gate.begun g.G.Gate.ended c.look.new.self in
     can-then c.args.actor.now f (Waiting c.args.next c.args.at c.args.round c.args.number) _ _ k (Stepping c.args.next)
     c.requires.can
     (granted-did c.args.actor.now f k c.args.next c.args.at c.args.round c.args.number c.in-Granted.field-0 _
-    c.requires.can c.look.ensures.looks c.look.ensures.waits c.in-Granted.is)
+    c.requires.can c.look.ensures.looks c.look.ensures.waits c.look.ensures.told c.in-Granted.is)
 
 pub returns-in-Pending-clause-did : goal.returns-in-Pending-clause-did
 returns-in-Pending-clause-did g c =
     pending-did c.args.actor.now _ _ c.args.next c.args.at c.args.round c.args.number _ c.requires.can
-    c.look.ensures.looks c.look.ensures.waits c.in-Pending.is
+    c.look.ensures.looks c.look.ensures.waits c.look.ensures.told c.in-Pending.is
 
 pub returns-in-Pending-clause-held : goal.returns-in-Pending-clause-held
 returns-in-Pending-clause-held g c =
@@ -42,11 +42,11 @@ returns-in-Pending-clause-held g c =
 
 pub returns-in_ok-hold-in-Granted-clause-did : goal.returns-in_ok-hold-in-Granted-clause-did
 returns-in_ok-hold-in-Granted-clause-did g c =
-    let f = desk (g.F.SharedFloor.shared c.args.clerk.now.floor) c.args.clerk.now.waits.items in
-    let k = desk (g.F.SharedFloor.shared c.look.new.self.floor) c.look.new.self.waits.items in
+    let f = at_hand g.F.SharedFloor.shared g.G.Gate.begun g.G.Gate.ended c.args.clerk.now in
+    let k = at_hand g.F.SharedFloor.shared g.G.Gate.begun g.G.Gate.ended c.look.new.self in
     let looked = granted-did c.args.actor.now f k c.args.next c.args.at c.args.round c.args.number c.in-Granted.field-0
     _
-    c.requires.can c.look.ensures.looks c.look.ensures.waits c.in-Granted.is in
+    c.requires.can c.look.ensures.looks c.look.ensures.waits c.look.ensures.told c.in-Granted.is in
     if-ok c.make_steps.result
     (λ progress made. did-then c.args.actor.now _ (Waiting c.args.next c.args.at c.args.round c.args.number)
     (look_at c.args.actor.now c.args.next c.args.at c.args.round c.args.number) (go_on c.args.actor.now c.args.next)

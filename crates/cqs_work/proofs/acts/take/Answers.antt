@@ -16,7 +16,7 @@ take-requires-clause-room g c = take-room c.args.actor.now _ c.args.next c.args.
 pub returns-in_ok-push-in-Ok-Now-clause-did : goal.returns-in_ok-push-in-Ok-Now-clause-did
 returns-in_ok-push-in-Ok-Now-clause-did g c =
     take-did c.args.actor.now _ _ c.args.next c.args.at _ _ c.requires.can c.requires.step c.take.ensures.takes
-    (ap answer_of c.in-Ok-Now.is ∙ ap Some c.in-Ok-Now.field-0-is) c.take.ensures.waits
+    (ap answer_of c.in-Ok-Now.is ∙ ap Some c.in-Ok-Now.field-0-is) c.take.ensures.waits c.take.ensures.told
 
 pub returns-in_ok-note-in-Ok-Waits-clause-did : goal.returns-in_ok-note-in-Ok-Waits-clause-did
 returns-in_ok-note-in-Ok-Waits-clause-did g c =
@@ -24,9 +24,9 @@ returns-in_ok-note-in-Ok-Waits-clause-did g c =
     (ap answer_of c.in-Ok-Waits.is ∙ ap Some c.in-Ok-Waits.field-0-is)
     (c.in_ok-note-in-Ok-Waits.ensures
     ∙ ap (λ l. with_answer l c.args.at 0 c.args.actor.now.place (Some (Waits c.in-Ok-Waits.number)))
-    c.take.ensures.waits)
+    c.take.ensures.waits) c.take.ensures.told
 
 pub returns-in-Err-clause-did : goal.returns-in-Err-clause-did
 returns-in-Err-clause-did g c =
     take-did c.args.actor.now _ _ c.args.next c.args.at _ _ c.requires.can c.requires.step c.take.ensures.takes
-    (ap answer_of c.in-Err.is) c.take.ensures.waits
+    (ap answer_of c.in-Err.is) c.take.ensures.waits c.take.ensures.told

@@ -25,5 +25,5 @@ loop-floor-preserved g c =
           omega arith;
       posts = rw c.in_ok-push.ensures.items
           (posts-next _ _ _ at.yielded at.posts.items _ at.invariant.posts (c.len-worker.ensures ∙ at.posts.ok.0)
-          c.in_ok-states.ensures);
+          c.in_ok-states.ensures refl);
     }

@@ -1,5 +1,6 @@
 use Rattle.std.proofs.Common.{◌<◌, length, get_or, ap, arith, refl}
-use Rattle.cqs_work.specs.Desk.{Desk, desk}
+use Rattle.cqs_work.specs.Desk.{Desk}
+use Rattle.cqs_work.specs.Hands.{at_hand}
 use Rattle.cqs_work.proofs.Closing.{closing-starts, close-held, close-stands, closes-next}
 use Rattle.cqs_work.proofs.turns.close_jobs.Goals as goal
 
@@ -10,9 +11,9 @@ pub close_job-requires-clause-held : goal.close_job-requires-clause-held
 close_job-requires-clause-held g c =
     let below : c.loop-place.place < length c.args.plan.now.jobs
     = omega (arith, c.loop-place-test.true, ap length c.as_slice-place-end.ensures) in
-    let f : Desk = desk (g.F.SharedFloor.shared c.args.clerk.now.floor) c.args.clerk.now.waits.items in
-    close-held c.args.plan.now c.loop-place.place f (desk (g.F.SharedFloor.shared c.loop-place.clerk.floor)
-    c.loop-place.clerk.waits.items) f c.args.states.now
+    let f : Desk = at_hand g.F.SharedFloor.shared g.G.Gate.begun g.G.Gate.ended c.args.clerk.now in
+    close-held c.args.plan.now c.loop-place.place f
+    (at_hand g.F.SharedFloor.shared g.G.Gate.begun g.G.Gate.ended c.loop-place.clerk) f c.args.states.now
     c.loop-place.states (get_or c.loop-place.states c.loop-place.place c.index-states-place.result)
     c.index-states-place.result c.index-states-place.result c.actor_at-actor.result c.loop-place.invariant below refl
     c.actor_at-actor.ensures.place
@@ -21,9 +22,9 @@ pub close_job-requires-clause-stands : goal.close_job-requires-clause-stands
 close_job-requires-clause-stands g c =
     let below : c.loop-place.place < length c.args.plan.now.jobs
     = omega (arith, c.loop-place-test.true, ap length c.as_slice-place-end.ensures) in
-    let f : Desk = desk (g.F.SharedFloor.shared c.args.clerk.now.floor) c.args.clerk.now.waits.items in
-    close-stands c.args.plan.now c.loop-place.place f (desk (g.F.SharedFloor.shared c.loop-place.clerk.floor)
-    c.loop-place.clerk.waits.items) f
+    let f : Desk = at_hand g.F.SharedFloor.shared g.G.Gate.begun g.G.Gate.ended c.args.clerk.now in
+    close-stands c.args.plan.now c.loop-place.place f
+    (at_hand g.F.SharedFloor.shared g.G.Gate.begun g.G.Gate.ended c.loop-place.clerk) f
     c.args.states.now c.loop-place.states (get_or c.loop-place.states c.loop-place.place c.index-states-place.result)
     c.index-states-place.result c.index-states-place.result c.actor_at-actor.result c.loop-place.invariant below refl
     c.actor_at-actor.ensures.place c.actor_at-actor.ensures.resources
@@ -32,10 +33,10 @@ pub loop-place-preserved : goal.loop-place-preserved
 loop-place-preserved g c =
     let below : c.loop-place.place < length c.args.plan.now.jobs
     = omega (arith, c.loop-place-test.true, ap length c.as_slice-place-end.ensures) in
-    let f : Desk = desk (g.F.SharedFloor.shared c.args.clerk.now.floor) c.args.clerk.now.waits.items in
-    closes-next c.args.plan.now c.loop-place.place f (desk (g.F.SharedFloor.shared c.loop-place.clerk.floor)
-    c.loop-place.clerk.waits.items)
-    (desk (g.F.SharedFloor.shared c.close_job.new.clerk.floor) c.close_job.new.clerk.waits.items) c.args.states.now
+    let f : Desk = at_hand g.F.SharedFloor.shared g.G.Gate.begun g.G.Gate.ended c.args.clerk.now in
+    closes-next c.args.plan.now c.loop-place.place f
+    (at_hand g.F.SharedFloor.shared g.G.Gate.begun g.G.Gate.ended c.loop-place.clerk)
+    (at_hand g.F.SharedFloor.shared g.G.Gate.begun g.G.Gate.ended c.close_job.new.clerk) c.args.states.now
     c.loop-place.states
     (get_or c.loop-place.states c.loop-place.place c.index-states-place.result) c.close_job.new.state
     c.index-states-place.result c.actor_at-actor.result c.loop-place.invariant below refl

@@ -1,5 +1,6 @@
 use Rattle.std.proofs.Common.{get_or}
-use Rattle.cqs_work.specs.Desk.{Desk, desk}
+use Rattle.cqs_work.specs.Desk.{Desk}
+use Rattle.cqs_work.specs.Hands.{at_hand}
 use Rattle.cqs_work.proofs.Acting.{on-ok-both}
 use Rattle.cqs_work.proofs.Turning.{Acting, acting-at, can-act, its-held, one-job-heard, one-job-runs, one-job-went}
 use Rattle.cqs_work.proofs.turns.one_job.Goals as goal
@@ -7,7 +8,7 @@ use Rattle.cqs_work.proofs.turns.one_job.Goals as goal
 pub act-requires-clause-held : goal.act-requires-clause-held
 act-requires-clause-held g c =
     let actor = c.actor_at-actor.ensures in
-    let f : Desk = desk (g.F.SharedFloor.shared c.args.clerk.now.floor) c.args.clerk.now.waits.items in
+    let f : Desk = at_hand g.F.SharedFloor.shared g.G.Gate.begun g.G.Gate.ended c.args.clerk.now in
     its-held c.args.plan.now c.actor_at-actor.result f c.args.states.now
     (get_or c.args.states.now c.args.place c.index-states-place.result)
     (acting-at c.args.plan.now c.actor_at-actor.result f.floor c.args.states.now c.args.place
@@ -17,7 +18,7 @@ act-requires-clause-held g c =
 pub act-requires-clause-can : goal.act-requires-clause-can
 act-requires-clause-can g c =
     let actor = c.actor_at-actor.ensures in
-    let f : Desk = desk (g.F.SharedFloor.shared c.args.clerk.now.floor) c.args.clerk.now.waits.items in
+    let f : Desk = at_hand g.F.SharedFloor.shared g.G.Gate.begun g.G.Gate.ended c.args.clerk.now in
     can-act c.args.plan.now c.actor_at-actor.result f c.args.states.now
     (get_or c.args.states.now c.args.place c.index-states-place.result)
     (acting-at c.args.plan.now c.actor_at-actor.result f.floor c.args.states.now c.args.place
@@ -28,7 +29,7 @@ act-requires-clause-can g c =
 pub returns-clause-heard : goal.returns-clause-heard
 returns-clause-heard g c =
     let actor = c.actor_at-actor.ensures in
-    let f : Desk = desk (g.F.SharedFloor.shared c.args.clerk.now.floor) c.args.clerk.now.waits.items in
+    let f : Desk = at_hand g.F.SharedFloor.shared g.G.Gate.begun g.G.Gate.ended c.args.clerk.now in
     let acting : Acting c.args.plan.now c.actor_at-actor.result f.floor c.args.states.now
     (get_or c.args.states.now c.args.place c.index-states-place.result)
     = acting-at c.args.plan.now c.actor_at-actor.result f.floor c.args.states.now c.args.place
@@ -37,14 +38,14 @@ returns-clause-heard g c =
     on-ok-both c.act.result
     (λ acts held. one-job-heard c.args.plan.now c.actor_at-actor.result f c.args.states.now
     (get_or c.args.states.now c.args.place c.index-states-place.result) acting
-    (desk (g.F.SharedFloor.shared c.act.new.clerk.floor) c.act.new.clerk.waits.items) c.act.new.state acts held
+    (at_hand g.F.SharedFloor.shared g.G.Gate.begun g.G.Gate.ended c.act.new.clerk) c.act.new.state acts held
     c.args.turn c.args.place actor.turn actor.place)
     c.act.ensures.did c.act.ensures.held
 
 pub returns-clause-runs : goal.returns-clause-runs
 returns-clause-runs g c =
     let actor = c.actor_at-actor.ensures in
-    let f : Desk = desk (g.F.SharedFloor.shared c.args.clerk.now.floor) c.args.clerk.now.waits.items in
+    let f : Desk = at_hand g.F.SharedFloor.shared g.G.Gate.begun g.G.Gate.ended c.args.clerk.now in
     let acting : Acting c.args.plan.now c.actor_at-actor.result f.floor c.args.states.now
     (get_or c.args.states.now c.args.place c.index-states-place.result)
     = acting-at c.args.plan.now c.actor_at-actor.result f.floor c.args.states.now c.args.place
@@ -53,14 +54,14 @@ returns-clause-runs g c =
     on-ok-both c.act.result
     (λ acts held. one-job-runs c.args.plan.now c.actor_at-actor.result f c.args.states.now
     (get_or c.args.states.now c.args.place c.index-states-place.result) acting
-    (desk (g.F.SharedFloor.shared c.act.new.clerk.floor) c.act.new.clerk.waits.items) c.act.new.state acts held
+    (at_hand g.F.SharedFloor.shared g.G.Gate.begun g.G.Gate.ended c.act.new.clerk) c.act.new.state acts held
     c.args.turn c.args.place actor.turn actor.place)
     c.act.ensures.did c.act.ensures.held
 
 pub returns-clause-went : goal.returns-clause-went
 returns-clause-went g c =
     let actor = c.actor_at-actor.ensures in
-    let f : Desk = desk (g.F.SharedFloor.shared c.args.clerk.now.floor) c.args.clerk.now.waits.items in
+    let f : Desk = at_hand g.F.SharedFloor.shared g.G.Gate.begun g.G.Gate.ended c.args.clerk.now in
     let acting : Acting c.args.plan.now c.actor_at-actor.result f.floor c.args.states.now
     (get_or c.args.states.now c.args.place c.index-states-place.result)
     = acting-at c.args.plan.now c.actor_at-actor.result f.floor c.args.states.now c.args.place
@@ -69,6 +70,6 @@ returns-clause-went g c =
     on-ok-both c.act.result
     (λ acts held. one-job-went c.args.plan.now c.actor_at-actor.result f c.args.states.now
     (get_or c.args.states.now c.args.place c.index-states-place.result) acting
-    (desk (g.F.SharedFloor.shared c.act.new.clerk.floor) c.act.new.clerk.waits.items) c.act.new.state acts held
+    (at_hand g.F.SharedFloor.shared g.G.Gate.begun g.G.Gate.ended c.act.new.clerk) c.act.new.state acts held
     c.args.turn c.args.place actor.turn actor.place)
     c.act.ensures.did c.act.ensures.held

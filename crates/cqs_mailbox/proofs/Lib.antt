@@ -1,2 +1,6 @@
 pub mod MailKeeps
 pub mod TallyKeeps
+pub mod SendersKeep
+pub mod PostsKeep
+pub mod DeskKeeps
+pub mod DesksKept

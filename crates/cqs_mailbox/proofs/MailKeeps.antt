@@ -1,5 +1,5 @@
 -- Each move of the letters' queue keeps its rule.
-use Rattle.std.proofs.Common.{◌≡◌, ◌≢◌, ◌⊎◌, ◌==◌, ℕ, zero, suc, ◌+◌, ◌<◌, ◌≤◌, List, [], ◌∷◌, ◌++◌, length, set, Result, Ok, Err, Option, Some, None, MatchResult, MatchOption, OnOk, sym, refl, ap, ◌∙◌, subst, ⊎_elim, append_assoc, append-nil, length-append, arith, eq-eqb, ne_eqb, if◌then◌else◌}
+use Rattle.std.proofs.Common.{◌≡◌, ◌≢◌, ◌==◌, ℕ, zero, suc, ◌+◌, ◌<◌, ◌≤◌, List, [], ◌∷◌, ◌++◌, length, set, Result, Ok, Err, Option, Some, None, MatchResult, MatchOption, OnOk, sym, refl, ap, ◌∙◌, subst, ⊎_elim, append_assoc, append-nil, length-append, arith, eq-eqb, ne_eqb, if◌then◌else◌}
 use Rattle.std.proofs.lemmas.List.Elements.{filter-append}
 use Rattle.std.proofs.lemmas.Bool.{cases_eq, cases_lt}
 use Rattle.std.proofs.lemmas.List.{length_push}
@@ -15,7 +15,7 @@ use Rattle.cqs_mailbox.specs.declared.letter.Letter.{Letter}
 use Rattle.cqs_mailbox.specs.Mail.{of_sender, AreNumbered, AllMet, Knows, IsMail, WasFound, IsPost, IsDesk, hiring, hired, having_met, having_sent, having_received, MetSentAll, IsAllReceived, IsInOrder, WereMade, HasReceived, WasEmpty, sent_in, received_in, met_in, made_in}
 
 -- the letters of a sender, with one letter more
-of_same : (s : ℕ) (xs : List Letter) (x : Letter) → x.sender ≡ s
+pub of_same : (s : ℕ) (xs : List Letter) (x : Letter) → x.sender ≡ s
     → of_sender s (xs ++ x ∷ []) ≡ of_sender s xs ++ x ∷ []
 of_same s xs x mine =
     let one : of_sender s (x ∷ []) ≡ x ∷ [] = rw (eq-eqb x.sender s mine) refl in

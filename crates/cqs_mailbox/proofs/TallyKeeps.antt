@@ -1,5 +1,5 @@
 -- Each move of a sender's acknowledgements keeps their rule.
-use Rattle.std.proofs.Common.{◌≡◌, ◌≢◌, ◌⊎◌, ℕ, zero, suc, ◌+◌, ◌≤◌, List, [], ◌∷◌, ◌++◌, length, set, Result, Ok, Err, Option, Some, None, MatchResult, MatchOption, sym, refl, ap, ◌∙◌, subst, ⊎_elim, arith}
+use Rattle.std.proofs.Common.{◌≡◌, ◌≢◌, ℕ, zero, suc, ◌+◌, ◌≤◌, List, [], ◌∷◌, ◌++◌, length, set, Result, Ok, Err, Option, Some, None, MatchResult, MatchOption, sym, refl, ap, ◌∙◌, subst, ⊎_elim, arith}
 use Rattle.std.proofs.lemmas.List.{length_push}
 use mathlib.Core.Option.{some, some-ne-none}
 use lib.ListN.{get_elem?}

@@ -1,2 +1,5 @@
 pub mod Mail
 pub mod Tallies
+pub mod Senders
+pub mod Mailboxes
+pub mod Calls

@@ -13,12 +13,24 @@
 //! acknowledgements than the desk gave.
 #![tactic(auto)]
 
+mod answers;
+mod desk;
 mod known;
 mod letter;
 pub mod letters;
+mod mailbox;
+mod opening;
+mod posting;
 pub mod replies;
+mod room;
+mod seats;
+mod senders;
 mod tally;
+mod threads;
 
+pub use answers::{Envelope, PostWait, Received, ReplyFull, Room, SplitError};
+pub use cqs_pool::{PoolLeft as RoomLeft, PoolPolled as RoomPolled};
 pub use known::{Finished, Known};
 pub use letter::Letter;
+pub use mailbox::{Desk, Mailbox, Post};
 pub use tally::Tally;

@@ -1,4 +1,4 @@
-use Rattle.std.proofs.Common.{rules, sym, subst}
+use Rattle.std.proofs.Common.{sym, subst}
 use Rattle.crossbeam_queue.specs.Passes.{view}
 use Rattle.cqs_mailbox.specs.Mail.{IsDesk, WereMade}
 use Rattle.cqs_mailbox.proofs.MailKeeps.{meets, compares, desk_met, low_met}

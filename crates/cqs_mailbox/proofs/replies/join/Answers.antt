@@ -1,4 +1,3 @@
-use Rattle.std.proofs.Common.{rules}
 use Rattle.cqs_mailbox.specs.Tallies.{IsDesk}
 use Rattle.crossbeam_queue.specs.Passes.{view}
 use Rattle.cqs_mailbox.proofs.TallyKeeps.{meets, compares}

@@ -1,4 +1,3 @@
-use Rattle.std.proofs.Common.{rules}
 use Rattle.cqs_mailbox.proofs.TallyKeeps.{parts}
 use Rattle.cqs_mailbox.proofs.replies.part.Goals as goal
 

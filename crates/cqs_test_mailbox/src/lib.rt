@@ -1,8 +1,16 @@
-//! Tests of a mailbox's letters and of its acknowledgements, call by call. Their expected answers
-//! were worked out by hand.
+//! Tests of a mailbox, call by call and in threads, and of its letters and its acknowledgements
+//! alone. Their expected answers were worked out by hand.
 #![tactic(auto)]
 
 #[cfg(test)]
 mod acknowledgements;
 #[cfg(test)]
+mod crews;
+#[cfg(test)]
+mod desks;
+#[cfg(test)]
 mod letters_in_order;
+#[cfg(test)]
+mod one_envelope;
+#[cfg(test)]
+mod posts;

@@ -55,13 +55,15 @@ impl Stall {
         self.flags.lock(rt).in_vain
     }
 
-    fn has_taken<R: Wait>(&self, rt: &R) -> bool {
-        self.flags.lock(rt).has_taken
+    /// Whether the first worker has taken, or somebody was held in vain: then nobody need be.
+    fn may_begin<R: Wait>(&self, rt: &R) -> bool {
+        let flags = *self.flags.lock(rt);
+        flags.has_taken || flags.in_vain
     }
 
     fn hold_until_taken<R: Wait>(&self, rt: &R) {
         for _look in 0..LOOKS {
-            if self.has_taken(rt) {
+            if self.may_begin(rt) {
                 return;
             }
             thread::yield_now();

@@ -45,3 +45,7 @@ HasCome m None p = IsAtRest m p
 -- two posts
 abbrev pub AreAtRest : Mailbox → Post × Post → Type 0
 AreAtRest m pair = IsAtRest m pair.0 × IsAtRest m pair.1
+
+-- four, in pairs
+abbrev pub AreFourAtRest : Mailbox → (Post × Post) × (Post × Post) → Type 0
+AreFourAtRest m four = AreAtRest m four.0 × AreAtRest m four.1

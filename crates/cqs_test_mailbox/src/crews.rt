@@ -15,16 +15,16 @@ use std::test::Fail;
 use std::thread::{self, Threads};
 
 /// Two posts.
-type Pair = (Post, Post);
+pub type Pair = (Post, Post);
 
 /// So many calls for room there may be.
-const LIMIT: u64 = 1 << 20;
+pub const LIMIT: u64 = 1 << 20;
 
 /// A post that leaves the line does so after two looks at first.
-const IMPATIENT: u32 = 2;
+pub const IMPATIENT: u32 = 2;
 
-// The desk makes a post.
-fn hire(rt: &impl Abort, alloc: Global, mailbox: &Mailbox, desk: &mut Desk) -> Post
+/// The desk makes a post.
+pub fn hire(rt: &impl Abort, alloc: Global, mailbox: &Mailbox, desk: &mut Desk) -> Post
     requires desk { IsDeskOf mailbox.now desk.old }
     ensures desk { IsDeskOf mailbox.now desk.new }
     ensures rest { IsAtRest mailbox.now result }
@@ -35,8 +35,8 @@ fn hire(rt: &impl Abort, alloc: Global, mailbox: &Mailbox, desk: &mut Desk) -> P
     post
 }
 
-// Two posts send so many letters each. The second one looks so often before it leaves the line.
-fn two<R: Threads + Wait + Abort + Sync>(
+/// Two posts send so many letters each. The second one looks so often before it leaves the line.
+pub fn two<R: Threads + Wait + Abort + Sync>(
     rt: &R,
     mailbox: &Mailbox,
     pair: Pair,
@@ -54,8 +54,8 @@ fn two<R: Threads + Wait + Abort + Sync>(
     )
 }
 
-// Two posts are met.
-fn take_in_two(rt: &impl Abort, mailbox: &Mailbox, desk: &mut Desk, pair: Pair)
+/// Two posts are met.
+pub fn take_in_two(rt: &impl Abort, mailbox: &Mailbox, desk: &mut Desk, pair: Pair)
     requires desk { IsDeskOf mailbox.now desk.old }
     requires rest { AreAtRest mailbox.now pair }
     ensures desk { IsDeskOf mailbox.now desk.new }

@@ -9,7 +9,11 @@ mod crews;
 #[cfg(test)]
 mod desks;
 #[cfg(test)]
+mod eight;
+#[cfg(test)]
 mod letters_in_order;
+#[cfg(test)]
+mod many_letters;
 #[cfg(test)]
 mod one_envelope;
 #[cfg(test)]

@@ -14,8 +14,8 @@ use std::process::Abort;
 use std::sync::Wait;
 use std::test::Fail;
 
-// The envelope is free.
-fn get_room(rt: &impl Abort, mailbox: &Mailbox, post: &mut Post) -> Envelope
+/// The envelope is free.
+pub fn get_room(rt: &impl Abort, mailbox: &Mailbox, post: &mut Post) -> Envelope
     requires rest { IsAtRest mailbox.now post.old }
     ensures spare { HasSpare mailbox.now result post.new }
 {
@@ -37,8 +37,8 @@ fn wait_for_room(rt: &impl Abort, mailbox: &Mailbox, post: &mut Post, number: u6
     wait
 }
 
-// The post sends the letter of this number.
-fn send(
+/// The post sends the letter of this number.
+pub fn send(
     rt: &(impl Abort + Wait),
     mailbox: &Mailbox,
     post: &mut Post,
@@ -55,8 +55,8 @@ fn send(
     assert!(rt; sent == number);
 }
 
-// The desk receives this letter.
-fn receive(rt: &(impl Abort + Wait), mailbox: &Mailbox, desk: &mut Desk, letter: Letter)
+/// The desk receives this letter.
+pub fn receive(rt: &(impl Abort + Wait), mailbox: &Mailbox, desk: &mut Desk, letter: Letter)
     requires desk { IsDeskOf mailbox.now desk.old }
     ensures desk { IsDeskOf mailbox.now desk.new }
     ensures due { IsDue letter.sender desk.new }
@@ -81,8 +81,8 @@ fn receive_none(rt: &(impl Abort + Wait), mailbox: &Mailbox, desk: &mut Desk, se
     };
 }
 
-// A letter of this sender is acknowledged.
-fn acknowledge(rt: &(impl Abort + Wait), mailbox: &Mailbox, desk: &mut Desk, sender: u32)
+/// A letter of this sender is acknowledged.
+pub fn acknowledge(rt: &(impl Abort + Wait), mailbox: &Mailbox, desk: &mut Desk, sender: u32)
     requires desk { IsDeskOf mailbox.now desk.old }
     requires due { IsDue sender desk.old }
     ensures desk { IsDeskOf mailbox.now desk.new }
@@ -147,8 +147,8 @@ fn reclaim_in_vain(
     wait
 }
 
-// A letter of the first post.
-fn letter(number: u64, word: u64) -> Letter
+/// A letter of the first post.
+pub fn letter(number: u64, word: u64) -> Letter
     ensures { result.sender ≡ 0 }
 {
     Letter {

@@ -1,0 +1,68 @@
+//! Many letters of one post, on one thread: each is received and acknowledged, and its envelope is
+//! given back, before the next one is sent.
+
+ghost use Rattle.cqs_mailbox.specs.Mailboxes.{IsDeskOf};
+ghost use Rattle.cqs_test_mailbox.specs.Posts.{HasSpare, IsAtRest};
+
+use crate::desks::{find_empty, take_in};
+use crate::one_envelope::{acknowledge, get_room, letter, receive, send};
+use crate::posts::give_back;
+use cqs_mailbox::{Desk, Envelope, Mailbox, Post};
+use std::process::Abort;
+use std::sync::Wait;
+use std::test::Fail;
+
+const LETTERS: u64 = 100_000;
+
+// The post has its envelope back.
+fn reclaim(rt: &(impl Abort + Wait), mailbox: &Mailbox, post: &mut Post) -> Envelope
+    requires rest { IsAtRest mailbox.now post.old }
+    ensures spare { HasSpare mailbox.now result post.new }
+{
+    let Some(envelope) = mailbox.reclaim(rt, post) else {
+        panic!(rt; "the letter was acknowledged");
+    };
+    envelope
+}
+
+// The letter of this number goes from the post to the desk, and its envelope comes back.
+fn deliver(
+    rt: &(impl Abort + Wait),
+    mailbox: &Mailbox,
+    desk: &mut Desk,
+    post: &mut Post,
+    number: u64,
+)
+    requires desk { IsDeskOf mailbox.now desk.old }
+    requires rest { IsAtRest mailbox.now post.old }
+    ensures desk { IsDeskOf mailbox.now desk.new }
+    ensures rest { IsAtRest mailbox.now post.new }
+{
+    let envelope = get_room(rt, mailbox, post);
+    send(rt, mailbox, post, envelope, (number, number));
+    receive(rt, mailbox, desk, letter(number, number));
+    acknowledge(rt, mailbox, desk, 0);
+    let envelope = reclaim(rt, mailbox, post);
+    give_back(mailbox, post, envelope);
+}
+
+// All letters go so. Then the post is met, and nothing is left.
+fn deliver_all(rt: &(impl Abort + Wait), mailbox: &Mailbox, given: Desk, first: Post)
+    requires desk { IsDeskOf mailbox.now given }
+    requires rest { IsAtRest mailbox.now first }
+{
+    let mut desk = given;
+    let mut post = first;
+    for number in 0..LETTERS {
+        deliver(rt, mailbox, &mut desk, &mut post, number);
+    }
+    take_in(rt, mailbox, &mut desk, post);
+    find_empty(rt, mailbox, &mut desk);
+}
+
+#[test]
+fn many_letters(rt: HostRuntime) -> Result<(), Fail> {
+    let (mailbox, desk, post) = Mailbox::new(rt.alloc(), 4, 2, 1 << 20)?;
+    deliver_all(&rt, &mailbox, desk, post);
+    Ok(())
+}

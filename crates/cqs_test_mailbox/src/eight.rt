@@ -5,7 +5,7 @@ ghost use Rattle.std.specs.Thread.{IsSync};
 ghost use Rattle.cqs_mailbox.specs.Mailboxes.{IsDeskOf};
 ghost use Rattle.cqs_test_mailbox.specs.Posts.{AreAtRest, AreFourAtRest};
 
-use crate::crews::{IMPATIENT, LIMIT, Pair, hire, take_in_two, two};
+use crate::crews::{IMPATIENT, Pair, hire, take_in_two, two};
 use crate::desks::{find_empty, receive_all};
 use cqs_mailbox::{Desk, Mailbox};
 use std::alloc::Global;
@@ -19,6 +19,10 @@ type Four = (Pair, Pair);
 
 /// Each post sends so many letters.
 const LETTERS: u64 = 25;
+
+/// So many calls for room there may be. A letter takes few of them, since a post that leaves the
+/// line is twice as patient the next time.
+const LIMIT: u64 = 1 << 14;
 
 // The desk makes two posts.
 fn hire_two(rt: &impl Abort, alloc: Global, mailbox: &Mailbox, desk: &mut Desk) -> Pair

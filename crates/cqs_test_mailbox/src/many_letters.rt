@@ -62,7 +62,7 @@ fn deliver_all(rt: &(impl Abort + Wait), mailbox: &Mailbox, given: Desk, first: 
 
 #[test]
 fn many_letters(rt: HostRuntime) -> Result<(), Fail> {
-    let (mailbox, desk, post) = Mailbox::new(rt.alloc(), 4, 2, 1 << 20)?;
+    let (mailbox, desk, post) = Mailbox::new(rt.alloc(), 4, 2, 1 << 17)?;
     deliver_all(&rt, &mailbox, desk, post);
     Ok(())
 }

@@ -1,11 +1,13 @@
 -- What a pass keeps after an exchange on a cell.
-use Rattle.std.proofs.Common.{◌≡◌, ◌≢◌, ℕ, ap}
-use Rattle.cqs_core.specs.QueueSteps.{QueueStep, StepRow, at_counter, at_cell}
+use Rattle.std.proofs.Common.{◌≡◌, ◌≢◌, ℕ, ◌∙◌, ap, sym}
+use Rattle.cqs_core.specs.declared.doings.Doing.TheVariants as doing
+use Rattle.cqs_core.specs.QueueSteps.{QueueStep, StepRow, at_counter, at_cell, row_of}
 use Rattle.cqs_rule_laws.specs.declared.view.Facts.{Facts}
 use Rattle.cqs_rule_laws.specs.declared.view.View.{View}
 use Rattle.cqs_rule_laws.specs.Exchanges.{CrossedBy}
 use Rattle.cqs_rule_laws.specs.Object.{Object, Primitive}
 use Rattle.cqs_rule_laws.specs.Views.{IsSame}
+use Rattle.cqs_rule_laws.proofs.Settled.{NoTicket, no-ticket-after}
 
 -- what a pass counts is as it was
 pub record Stays {E S : Type 0} (v w : View E S) : Type 0 where
@@ -20,6 +22,18 @@ module _ {C E S : Type 0} (object : Object E) (primitive : C → Primitive E S) 
       → CrossedBy object primitive s row k expected v n w → n ≡ expected → IsSame v w
   same-made s (at_cell row) k expected v n w crossed is = (crossed.made is).0.same
   same-made s (at_counter row) k expected v n w crossed is = absurd crossed
+
+  -- no exchange that is made gives its pass a ticket
+  pub ticketless : (s : QueueStep) (k expected : ℕ) (v : View E S) (n : ℕ) (w : View E S)
+      → CrossedBy object primitive s (row_of s) k expected v n w → n ≡ expected
+      → (j : ℕ) → w.facts.doing ≡ doing.Ticket j → ⊥
+  ticketless s k expected v n w crossed is = by (row_of s) (no-ticket-after s) crossed
+    where
+      by : (row : StepRow) → NoTicket row → CrossedBy object primitive s row k expected v n w → (j : ℕ)
+          → w.facts.doing ≡ doing.Ticket j → ⊥
+      by (at_cell row) none made j e =
+          none _ j (sym (ap (λ (f : Facts). f.doing) (made.made is).0.facts_are) ∙ e)
+      by (at_counter row) none made j e = absurd made
 
   pub stays-missed : (s : QueueStep) (row : StepRow) (k expected : ℕ) (v : View E S) (n : ℕ) (w : View E S)
       → CrossedBy object primitive s row k expected v n w → n ≢ expected → Stays v w

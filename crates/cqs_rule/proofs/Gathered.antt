@@ -54,7 +54,7 @@ module _ {C S E : Type 0} {g : Ghosts C S E} where
 
   pub keeps-met : (p given : Pass C S E g) (w : View E S) → Gathered p given w → IsLive g.object w
       → (items : List (ℕ × Option S)) (words : ℕ) → items ≡ p.seat.me.1 → p.seat.table_id.words ≡ words
-      → Keeps w items words p.number (p.held + given.held) p.further p.owes p.waits
+      → Keeps w items words p.number (p.held + given.held) p.further p.owes p.waits p.ticket
   keeps-met p given w gathered live items words none table =
       let m = gathered.met in
       let are = m.facts_are in record {
@@ -66,6 +66,7 @@ module _ {C S E : Type 0} {g : Ghosts C S E} where
         shut = ap (λ (f : Facts). f.open_slot) are ∙ p.shut;
         owes_is = ap (λ (f : Facts). is_owing f.doing) are ∙ p.owes_is;
         waits_are = ap (λ (f : Facts). length f.waits) are ∙ p.waits_are;
+        ticket_is = λ k e. p.ticket_is k (sym (ap (λ (f : Facts). f.doing) are) ∙ e);
         cells_are = ap words_for m.cells ∙ (p.cells_are ∙ table);
         inside = live.inside;
         few_cells = subst (λ k. k < 2147483648) (sym m.cells) p.few_cells;

@@ -36,7 +36,7 @@ module _ {C S E : Type 0} {g : Ghosts C S E} where
   pub keeps-cut : (gives : ℕ) (v : View E S) (p : Pass C S E g) (x : View E S × List (ℕ × Option S)) (u : View E S)
       (more : List (ℕ × Option S)) → Leaves g.object gives v (pass_view p) x.0 → x ≡ (single u, more)
       → more ≡ p.seat.me.1 → (t : TableId) → t ≡ p.seat.table_id
-      → Keeps x.0 x.1 t.words p.number (p.held - gives) p.further p.owes p.waits
+      → Keeps x.0 x.1 t.words p.number (p.held - gives) p.further p.owes p.waits p.ticket
   keeps-cut gives v p x u more l is none t table =
       let has = (pass_view p).facts.has in record {
         live = (
@@ -50,6 +50,7 @@ module _ {C S E : Type 0} {g : Ghosts C S E} where
         shut = ap (λ (f : Facts). f.open_slot) l.facts ∙ p.shut;
         owes_is = ap (λ (f : Facts). is_owing f.doing) l.facts ∙ p.owes_is;
         waits_are = ap (λ (f : Facts). length f.waits) l.facts ∙ p.waits_are;
+        ticket_is = λ k e. p.ticket_is k (sym (ap (λ (f : Facts). f.doing) l.facts) ∙ e);
         cells_are = ap words_for l.cells ∙ (p.cells_are ∙ ap (λ (t : TableId). t.words) (sym table));
         inside = l.alive.inside;
         few_cells = subst (λ n. n < 2147483648) (sym l.cells) p.few_cells;
@@ -58,7 +59,7 @@ module _ {C S E : Type 0} {g : Ghosts C S E} where
   -- the new one
   pub keeps-begun : (gives number : ℕ) (p : Pass C S E g) (x : View E S) (y : View E S × List (ℕ × Option S))
       (u : View E S) → Begins g.object gives (pass_view p) x y.0 → y ≡ (cut_off u, []) → u.second_number ≡ number
-      → (t : TableId) → t ≡ p.seat.table_id → Keeps y.0 y.1 t.words number gives 0 false 0
+      → (t : TableId) → t ≡ p.seat.table_id → Keeps y.0 y.1 t.words number gives 0 false 0 0
   keeps-begun gives number p x y u b is named t table =
       let facts = b.came.facts in record {
         live = (b.weight, ap (λ (z : View E S × List (ℕ × Option S)). length z.1) is);
@@ -69,6 +70,7 @@ module _ {C S E : Type 0} {g : Ghosts C S E} where
         shut = ap (λ (f : Facts). f.open_slot) facts;
         owes_is = ap (λ (f : Facts). is_owing f.doing) facts;
         waits_are = ap (λ (f : Facts). length f.waits) facts;
+        ticket_is = λ k e. let idle = ap (λ (f : Facts). f.doing) facts in absurd (cc);
         cells_are = ap words_for b.cells ∙ (p.cells_are ∙ ap (λ (t : TableId). t.words) (sym table));
         inside = b.alive.inside;
         few_cells = subst (λ n. n < 2147483648) (sym b.cells) p.few_cells;

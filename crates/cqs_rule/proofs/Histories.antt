@@ -8,7 +8,6 @@ use mathlib.Core.Logic.{dite}
 use native.Mathlib.Decide.{ℕ_discrete}
 use Rattle.cqs_core.proofs.Places.{get-set_here, get-set_else, get-below}
 use Rattle.cqs_rule_laws.specs.declared.client.ClientWords.{Ghosts}
-use Rattle.cqs_rule_laws.specs.declared.view.Facts.{Facts}
 use Rattle.cqs_rule_laws.specs.declared.view.View.{View}
 use Rattle.cqs_rule_laws.specs.CallRule.{Course}
 use Rattle.cqs_rule_laws.specs.Lists.{Has, IsPrefix, part}

@@ -7,5 +7,6 @@ pub mod Moved
 pub mod Numbers
 pub mod Places
 pub mod Slots
+pub mod Ticketless
 pub mod Words
 pub mod Histories

@@ -26,7 +26,7 @@ module _ {C S E : Type 0} {g : Ghosts C S E} where
   pub keeps-looked : (p : Pass C S E g) (w : View E S)
       → Saw g.object (pass_view p) (pass_view p).facts [] (as_before (pass_view p) w) → w.weight ≡ 1 → IsInside w
       → (items : List (ℕ × Option S)) (t : TableId) → items ≡ p.seat.me.1 → t ≡ p.seat.table_id
-      → Keeps w items t.words p.number p.held p.further p.owes p.waits
+      → Keeps w items t.words p.number p.held p.further p.owes p.waits p.ticket
   keeps-looked p w saw weight inside items t none table =
       let same = saw.same in
       let are = saw.facts_are in record {
@@ -38,6 +38,7 @@ module _ {C S E : Type 0} {g : Ghosts C S E} where
         shut = ap (λ (f : Facts). f.open_slot) are ∙ p.shut;
         owes_is = ap (λ (f : Facts). is_owing f.doing) are ∙ p.owes_is;
         waits_are = ap (λ (f : Facts). length f.waits) are ∙ p.waits_are;
+        ticket_is = λ k e. p.ticket_is k (sym (ap (λ (f : Facts). f.doing) are) ∙ e);
         cells_are = ap words_for same.cells ∙ (p.cells_are ∙ ap (λ (t : TableId). t.words) (sym table));
         inside = inside;
         few_cells = subst (λ n. n < 2147483648) (sym same.cells) p.few_cells;

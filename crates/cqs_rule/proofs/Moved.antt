@@ -5,16 +5,18 @@ use Rattle.cqs_rule.specs.declared.queue.Pass.{Pass}
 use Rattle.cqs_rule.specs.Passes.{pass_view}
 use Rattle.cqs_rule_laws.specs.declared.view.Facts.{Facts}
 use Rattle.cqs_rule_laws.specs.declared.view.View.{View}
-use Rattle.cqs_rule_laws.specs.Events.{Event, Moment, IsMoment, Moved, moment}
+use Rattle.cqs_rule_laws.specs.Events.{Event, Moment, IsMoment, Moved, Moves, moment}
 use Rattle.cqs_rule_laws.specs.Facts.{is_owing}
 use Rattle.cqs_rule_laws.specs.Inside.{IsInside}
 use Rattle.cqs_rule_laws.specs.Layout.{words_for}
+use Rattle.cqs_rule_laws.specs.Loads.{IsTicketOf}
+use Rattle.cqs_core.specs.declared.doings.Doing.TheVariants.{Ticket}
 use Rattle.cqs_rule_laws.specs.Saw.{IsLive}
 
 module _ {S E : Type 0} where
   -- what a pass with these counts keeps
-  abbrev pub Keeps : View E S → List (ℕ × Option S) → ℕ → ℕ → ℕ → ℕ → Bool → ℕ → Type 0
-  Keeps w items words number held further owes waits = record {
+  abbrev pub Keeps : View E S → List (ℕ × Option S) → ℕ → ℕ → ℕ → ℕ → Bool → ℕ → ℕ → Type 0
+  Keeps w items words number held further owes waits ticket = record {
     live : (w.weight ≡ 1) × (length items ≡ 0);
     number_is : w.number ≡ number;
     held_is : w.facts.has.held ≡ held;
@@ -23,12 +25,22 @@ module _ {S E : Type 0} where
     shut : w.facts.open_slot ≡ None;
     owes_is : is_owing w.facts.doing ≡ owes;
     waits_are : length w.facts.waits ≡ waits;
+    ticket_is : IsTicketOf w.facts.doing ticket;
     cells_are : words_for w.cells ≡ words;
     inside : IsInside w;
     few_cells : w.cells < 2 ^ 31;
   }
 
 module _ {C S E : Type 0} {g : Ghosts C S E} where
+  -- by the law of the step it has no ticket then that it had not
+  pub moved-ticket : (x : C) (event : Event E) (made : ℕ → Bool) (p : Pass C S E g) (word : ℕ) (f : ℕ → ℕ)
+      → Moves g.object (g.primitive x) event made (pass_view p).number (pass_view p).facts word f
+      → (pass_view p).opening ≡ (g.primitive x).opening → (n k : ℕ)
+      → event.doing (moment (pass_view p).opening (pass_view p).number (pass_view p).facts made n) ≡ Ticket k
+      → (pass_view p).facts.doing ≡ Ticket k
+  moved-ticket x event made p word f law opening n k e = law.ticket n k
+      (subst (λ o. event.doing (moment o (pass_view p).number (pass_view p).facts made n) ≡ Ticket k) opening e)
+
   pub keeps-moved : (event : Event E) (made : ℕ → Bool) (place : ℕ) (p : Pass C S E g) (n : ℕ) (w : View E S)
       → Moved g.object g.primitive event made place (pass_view p) n w → IsLive g.object w
       → (items : List (ℕ × Option S)) (words held further : ℕ) (owes : Bool) → items ≡ p.seat.me.1
@@ -36,8 +48,10 @@ module _ {C S E : Type 0} {g : Ghosts C S E} where
       → ((m : Moment) → is_owing m.facts.doing ≡ p.owes → m.found ≡ n → m.made ≡ made n
       → is_owing (event.doing m) ≡ owes)
       → ((m : Moment) → m.facts.has.further ≡ p.further → m.found ≡ n → m.made ≡ made n → event.further m ≡ further)
-      → Keeps w items words p.number held further owes p.waits
-  keeps-moved event made place p n w told live items words held further owes none table holds owing furthers =
+      → ((k : ℕ) → event.doing (moment (pass_view p).opening (pass_view p).number (pass_view p).facts made n) ≡ Ticket k
+      → (pass_view p).facts.doing ≡ Ticket k)
+      → Keeps w items words p.number held further owes p.waits p.ticket
+  keeps-moved event made place p n w told live items words held further owes none table holds owing furthers tickets =
       let v = pass_view p in
       let now = moment v.opening v.number v.facts made n in
       let are = told.saw.facts_are in
@@ -51,6 +65,7 @@ module _ {C S E : Type 0} {g : Ghosts C S E} where
         shut = ap (λ (f : Facts). f.open_slot) are ∙ p.shut;
         owes_is = ap (λ (f : Facts). is_owing f.doing) are ∙ owing now p.owes_is refl refl;
         waits_are = ap (λ (f : Facts). length f.waits) are ∙ p.waits_are;
+        ticket_is = λ k e. p.ticket_is k (tickets k (sym (ap (λ (f : Facts). f.doing) are) ∙ e));
         cells_are = ap words_for same.cells ∙ (p.cells_are ∙ table);
         inside = live.inside;
         few_cells = subst (λ k. k < 2147483648) (sym same.cells) p.few_cells;

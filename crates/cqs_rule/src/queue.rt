@@ -3,6 +3,7 @@
 ghost use Rattle.std.specs.Prelude.{◌≡◌, ◌+◌, ◌<◌, ◌≤◌, ◌^◌, length, None};
 ghost use Rattle.cqs_rule_laws.specs.Inside.{IsInside};
 ghost use Rattle.cqs_rule_laws.specs.Layout.{words_for};
+ghost use Rattle.cqs_rule_laws.specs.Loads.{IsTicketOf};
 ghost use Rattle.cqs_rule_laws.specs.Facts.{is_owing};
 
 mod histories;
@@ -47,6 +48,8 @@ pub struct Pass<C: ClientWords> {
     further: u32,
     owes: bool,
     waits: u32,
+    // The last number that it drew: that of its ticket, while it has one.
+    ticket: u64,
     pub ghost live: { (seat.me.0.weight ≡ 1) × (length seat.me.1 ≡ 0) },
     pub ghost number_is: { seat.me.0.number ≡ number },
     pub ghost held_is: { seat.me.0.facts.has.held ≡ held },
@@ -55,6 +58,7 @@ pub struct Pass<C: ClientWords> {
     pub ghost shut: { seat.me.0.facts.open_slot ≡ None },
     pub ghost owes_is: { is_owing seat.me.0.facts.doing ≡ owes },
     pub ghost waits_are: { length seat.me.0.facts.waits ≡ waits },
+    pub ghost ticket_is: { IsTicketOf seat.me.0.facts.doing ticket },
     pub ghost cells_are: { words_for seat.me.0.cells ≡ seat.table_id.words },
     pub ghost inside: { IsInside seat.me.0 },
     pub ghost few_cells: { seat.me.0.cells < 2 ^ 31 },

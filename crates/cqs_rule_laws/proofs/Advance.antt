@@ -1,6 +1,6 @@
 -- A step of a live pass: it sees the whole history, to which it adds entries of its own. What the rule says of all
 -- other passes stays, whatever kind of step it is; a kind has to show only what `Turned` asks.
-use Rattle.std.proofs.Common.{◌≡◌, ◌≢◌, ℕ, ◌+◌, ◌*◌, ◌<◌, ◌≤◌, ◌^◌, Bool, true, List, [], ◌++◌, length, set, sym, refl, ap, ◌∙◌, subst, ⊎_elim, inl, arith, Option, slice_get}
+use Rattle.std.proofs.Common.{◌≡◌, ◌≢◌, ℕ, ◌+◌, ◌*◌, ◌<◌, ◌≤◌, ◌^◌, Bool, true, List, [], ◌++◌, length, set, sym, refl, ap, ◌∙◌, subst, ⊎_elim, inl, arith, Option}
 use Rattle.std.specs.Prelude.{slice_index, slice_set}
 use Rattle.std.proofs.lemmas.List.{append-nil}
 use mathlib.Core.Option.{some}
@@ -18,12 +18,15 @@ use Rattle.cqs_rule_laws.specs.Drawn.{draws_in}
 use Rattle.cqs_rule_laws.specs.Hidden.{Hidden}
 use Rattle.cqs_rule_laws.specs.Layout.{client_words, slots_for}
 use Rattle.cqs_rule_laws.specs.Lists.{Has, IsDistinct, NamesOnly, IsPrefix}
-use Rattle.cqs_rule_laws.specs.Views.{all_own, weight, grown, Apart, SpentHasNone, WasCrew, first_facts}
-use Rattle.cqs_rule_laws.specs.Ruled.{Ruled, Knows, Sees, Stands, IsWaitOf, CountersShow, CellsShow, IdleWords, HasRoom, DoorMayDraw, number_at, IsKept, Rests, HasSecond, cell_count, none_settled, no_duties}
-use Rattle.cqs_slots.specs.Shown.{AreCounted}
-use Rattle.cqs_slots.specs.Slots.{Segments, IsLater, IsHome}
+use Rattle.cqs_rule_laws.specs.Views.{all_own, weight, grown, Apart, IsSpent, SpentHasNone, WasCrew, first_facts}
+use Rattle.cqs_rule_laws.specs.Ruled.{Ruled, Knows, Sees, Stands, CountersShow, CellsShow, IdleWords, HasRoom, DoorMayDraw, number_at, IsKept, Rests, HasSecond, cell_count, IsFinal}
+use Rattle.cqs_slots.specs.Slots.{Segments, IsLater, IsHome, settled_in}
+use Rattle.cqs_rule_laws.specs.Manner.{IsSmart}
+use Rattle.cqs_rule_laws.specs.Settling.{times}
+use Rattle.cqs_rule_laws.proofs.Duties.{counted-set}
 use Rattle.cqs_slots.proofs.Loads.{sees-same}
 use Rattle.cqs_rule_laws.specs.Segments.{KnowsSegments}
+use Rattle.cqs_rule_laws.proofs.Staying.{OthersStay}
 use Rattle.cqs_rule_laws.proofs.Segments.{knows-later}
 use Rattle.cqs_rule_laws.proofs.Spares.{spares-kept}
 use Rattle.cqs_rule_laws.specs.Slots.{Shelf}
@@ -32,12 +35,6 @@ use Rattle.cqs_rule_laws.specs.Inside.{IsInside}
 use Rattle.cqs_rule_laws.specs.Object.{Object, Primitive}
 use Rattle.cqs_rule_laws.specs.Saw.{Saw, IsLive}
 use Rattle.cqs_rule_laws.proofs.Lists.{set_there, one_there, set_all, total_set, two_of, nothing_more, longer, has_left, has_right, part_more, unnamed, few_below, length_without}
-
--- what stays of every other pass than p
-pub record OthersStay (c d : Hidden) (p : ℕ) : Type 0 where
-  pub doing : (n : ℕ) → n ≢ p → slice_get d.queue.doing n ≡ slice_get c.queue.doing n
-  pub waits : (n k : ℕ) → n ≢ p → IsWaitOf d.queue n k → IsWaitOf c.queue n k
-  pub stands : (n : ℕ) (facts : Facts) → n ≢ p → Stands c n facts → Stands d n facts
 
 -- what stays of a pass that rests, and of a second pass
 pub rests-on : (c d : Hidden) (n : ℕ) → ((facts : Facts) → Stands c n facts → Stands d n facts) → Rests c n → Rests d n
@@ -75,9 +72,9 @@ stands-out c p facts out at = record {
 }
 
 -- and whatever slots it has spare
-pub stands-spares : (c : Hidden) (p : ℕ) (facts : Facts) (spares : List Spare) → Stands c p facts
-    → Stands c p (record facts { spare_slots = spares })
-stands-spares c p facts spares at = record {
+pub stands-spares : (c : Hidden) (p : ℕ) (facts : Facts) (spares : List Spare) (duties : List ℕ) → Stands c p facts
+    → Stands c p (record facts { spare_slots = spares; duties = duties })
+stands-spares c p facts spares duties at = record {
   doing = at.doing;
   has = at.has;
   may_draw = at.may_draw;
@@ -169,7 +166,10 @@ module _ {E S : Type 0} (object : Object E) (primitive : Primitive E S) (passes 
     pub now : Segments
     pub later : IsLater r.segments now
     pub cells : CellsShow now d cells_of (slice_set s.words i x)
-    pub counted : AreCounted now none_settled no_duties
+    pub settles : ℕ → Bool
+    pub counts : (q : ℕ) → settled_in settles q + times q v.facts.duties + r.segments.counted q
+        ≡ settled_in r.settled q + times q facts.duties + now.counted q
+    pub finals : (k : ℕ) → settles k ≡ true → IsFinal (IsSmart primitive.manner.leaving) d.queue k
     pub same_slots : (y : ℕ) → now.slots y ≡ r.segments.slots y
     pub same_spares : facts.spare_slots ≡ v.facts.spare_slots
     pub idle_words : IdleWords (slice_set s.words i x)
@@ -202,7 +202,7 @@ module _ {E S : Type 0} (object : Object E) (primitive : Primitive E S) (passes 
 
   pub spent-set : (views : List (View E S)) (id : ℕ) (w : View E S) → 0 < w.weight → SpentHasNone views
       → SpentHasNone (set views id w)
-  spent-set views id w live old = set_all (λ j u. u.weight ≡ 0 → (n : ℕ) → Has n (all_own u) → ⊥) views id w
+  spent-set views id w live old = set_all (λ j u. u.weight ≡ 0 → IsSpent u) views id w
       (λ none. absurd (omega arith)) (λ j u apart at. old j u at)
 
   pub still-kept : (views : List (View E S)) (id : ℕ) (v w : View E S) (n : ℕ) → get_elem? views id ≡ some v
@@ -262,7 +262,11 @@ module _ {E S : Type 0} (object : Object E) (primitive : Primitive E S) (passes 
         };
         counters = t.counters;
         cells = t.cells;
-        counted = t.counted;
+        settled = t.settles;
+        finals = t.finals;
+        counted = counted-set (λ (x : View E S). x.facts.duties) r.segments t.now r.settled t.settles s.views id v w
+            here
+            t.counts r.counted;
         spares = spares-kept (slots_for cells_of) r.segments t.now s.views id v w here t.same_spares t.same_slots
             r.spares;
         idle_words = t.idle_words;

@@ -57,6 +57,7 @@ module _ {E S : Type 0} (object : Object E) where
     seen = sym (append-nil v.seen);
     mine = λ n h. refl;
     before = v.seen;
+    since = ([], sym (append-nil v.seen));
     ends = sym (append-nil v.seen);
     same = same-here v;
     handed = ([], sym (append-nil v.handed));
@@ -71,6 +72,7 @@ module _ {E S : Type 0} (object : Object E) where
     seen = s.seen ∙ append_assoc v.seen s.between es;
     mine = λ n h. part-step object.names n s.between es (s.silent n h);
     before = v.seen ++ s.between;
+    since = (s.between, refl);
     ends = s.seen;
     same = s.same;
     handed = s.handed;
@@ -91,6 +93,10 @@ module _ {E S : Type 0} (object : Object E) where
         ∙ ((λ i. c.mine n h i ++ part-step object.names n s.between fs silent i)
         ∙ sym (filter-append (object.names n) es fs));
     before = u.seen ++ s.between;
+    since = (
+      c.more ++ s.between,
+      ap (λ l. l ++ s.between) c.seen ∙ append_assoc v.seen c.more s.between,
+    );
     ends = s.seen;
     same = same-then v u w c.same s.same;
     handed = prefix-then v.handed u.handed w.handed c.handed s.handed;
@@ -125,6 +131,10 @@ module _ {E S : Type 0} (object : Object E) where
         ∙ ((λ i. c.mine n h i ++ d.mine n (subst (Has n) (sym c.same.own) h) i)
         ∙ sym (filter-append (object.names n) es fs));
     before = d.before;
+    since = (
+      c.more ++ d.since.0,
+      d.since.1 ∙ (ap (λ l. l ++ d.since.0) c.seen ∙ append_assoc v.seen c.more d.since.0),
+    );
     ends = d.ends;
     same = same-then v u w c.same d.same;
     handed = prefix-then v.handed u.handed w.handed c.handed d.handed;

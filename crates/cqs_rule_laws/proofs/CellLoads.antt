@@ -1,7 +1,12 @@
 -- A load of a cell. What it shows, if it shows a step of the queue, is a row of its table: the owner of a wait learns
 -- what became of it, and a resume meets a cell that is settled.
-use Rattle.std.proofs.Common.{◌≡◌, ℕ, ◌<◌, ◌^◌, false, [], ◌++◌, sym, refl, ap, ◌∙◌, subst, arith, Option, Some, None}
-use Rattle.std.specs.Prelude.{slice_index}
+use Rattle.std.proofs.Common.{◌≡◌, ◌≢◌, ◌⊎◌, ℕ, ◌<◌, ◌^◌, true, false, [], ◌++◌, sym, refl, ap, ◌∙◌, subst, ⊎_elim, inl, inr, arith, Option, Some, None, eq-eqb, ne_eqb, if◌then◌else◌}
+use Rattle.std.specs.Prelude.{slice_index, slice_set}
+use mathlib.Core.Logic.{dite}
+use native.Mathlib.Decide.{ℕ_discrete}
+use lib.Seq.{set-get_or}
+use Rattle.cqs_core.specs.declared.cells.CoreCell.{CoreCell}
+use Rattle.cqs_core.specs.QueueCells.{rank}
 use Rattle.std.proofs.lemmas.Option.{same_Some}
 use mathlib.Core.Option.{some, none}
 use lib.ListN.{get_elem?}
@@ -15,7 +20,7 @@ use Rattle.cqs_core.specs.QueueSteps.{wait_stays, wait_closes, nothing, its_own,
 use Rattle.cqs_core.proofs.QueueRows.{row-of}
 use Rattle.cqs_core.proofs.QueueUniform.{IsCellRow, IsAtCell}
 use Rattle.cqs_words.specs.declared.cell.CellState.{CellState}
-use Rattle.cqs_words.specs.Cell.{unpacked_cell}
+use Rattle.cqs_words.specs.Cell.{unpacked_cell, index_in}
 use Rattle.cqs_words.proofs.CellLaws.{unpacked_cell-packed_cell}
 use Rattle.cqs_rule_laws.specs.declared.loads.Learned.{Learned}
 use Rattle.cqs_rule_laws.specs.declared.loads.Learned.TheVariants.{Nothing}
@@ -25,25 +30,31 @@ use Rattle.cqs_rule_laws.specs.declared.view.Glimpse.{Glimpse}
 use Rattle.cqs_rule_laws.specs.Client.{IsClient}
 use Rattle.cqs_rule_laws.specs.Exchanges.{IsOwnWait, FoundCell, HasCell}
 use Rattle.cqs_rule_laws.specs.Facts.{facts_after, facts_worked, facts_watched, is_owing}
-use Rattle.cqs_rule_laws.specs.Hidden.{Hidden, Gains, state_in, state_at}
+use Rattle.cqs_rule_laws.specs.Hidden.{Hidden, Gains, happened_by, state_in, state_at}
+use Rattle.cqs_rule_laws.specs.declared.view.Has.{Has as OwnHas}
+use Rattle.cqs_rule_laws.specs.Lists as lists
+use Rattle.cqs_rule_laws.specs.Settling.{settles_row, duties_in}
 use Rattle.cqs_rule_laws.specs.Inside.{IsInside}
 use Rattle.cqs_rule_laws.specs.Layout.{client_words, words_for}
 use Rattle.cqs_rule_laws.specs.Lists.{IsDistinct}
-use Rattle.cqs_rule_laws.specs.Loads.{LoadStep, counts, watches, polls, cancels, meets, misses, event_of, LoadSuits, served_in, refused_in, cancelled_in, learned_of, learns, MayStand, IsNumber, told_at, facts_looked, MayLook, MayLoad, CarriesLearned, look_entries, Looked, LoadedCell, loaded_by}
-use Rattle.cqs_rule_laws.specs.Manner.{Manner, Suits}
+use Rattle.cqs_rule_laws.specs.Loads.{LoadStep, counts, watches, polls, cancels, meets, misses, event_of, LoadSuits, served_in, refused_in, cancelled_in, learned_of, learns, IsTicketOf, MayStand, told_at, facts_looked, MayLook, MayLoad, CarriesLearned, look_entries, Looked, LoadedCell, loaded_by}
+use Rattle.cqs_rule_laws.specs.Manner.{Manner, Suits, IsSmart}
 use Rattle.cqs_rule_laws.specs.Object.{Object, Primitive}
 use Rattle.cqs_rule_laws.specs.Placed.{KnowsPlace, place_at}
-use Rattle.cqs_rule_laws.specs.Ruled.{Ruled, Knows, Stands, cell_count, number_at, shown_state, word_of, none_settled, no_duties}
+use Rattle.cqs_rule_laws.specs.Ruled.{Ruled, Knows, Stands, cell_count, number_at, shown_state, word_of, word_at, CellsShow, IsWaitOf}
 use Rattle.cqs_rule_laws.specs.Saw.{Saw, IsLive, WasFound}
 use Rattle.cqs_rule_laws.specs.Views.{grown, IsSame}
 use Rattle.cqs_rule_laws.proofs.CellPlaces.{suspends-inside}
-use Rattle.cqs_rule_laws.proofs.CellsStand.{CellAt, cell-at, one-number, place-low}
-use Rattle.cqs_rule_laws.proofs.CellSteps.{WorksAt, works-at, works, since-last}
+use Rattle.cqs_rule_laws.proofs.CellsStand.{cell-at, one-number, place-low, place-behind, word-number}
+use Rattle.cqs_rule_laws.proofs.Stale.{found-there, false-or-true}
+use Rattle.cqs_rule_laws.proofs.Settled.{smart-once, Unsettled, unsettled}
+use Rattle.cqs_rule_laws.proofs.Words.{cells-same}
+use Rattle.cqs_rule_laws.proofs.CellSteps.{WorksAt, works-at, works, seen-word, since-last}
 use Rattle.cqs_rule_laws.proofs.Lists.{length_without}
 use Rattle.cqs_rule_laws.proofs.WordStays.{looks-to, found-so, counted-at}
 use Rattle.cqs_rule_laws.proofs.Drawing.{draws-cell}
 use Rattle.cqs_rule_laws.proofs.Shelves.{keeps-all}
-use Rattle.cqs_rule_laws.proofs.Worked.{loaded-same}
+use Rattle.cqs_rule_laws.proofs.Worked.{loaded-same, state-else, payload-else}
 
 -- at what a pass loads so
 abbrev stage_of : LoadStep → Stage
@@ -69,14 +80,37 @@ word-learned by k x payload low fits =
     ap (learned_of by) (unpacked_cell-packed_cell (record { index = k; state = shown_state x; payload = payload })
     (record { index = low; payload = fits }))
 
+-- the load is a resume's
+abbrev IsTicketLoad : LoadStep → Type 0
+IsTicketLoad counts = ⊥
+IsTicketLoad watches = ⊥
+IsTicketLoad polls = ⊥
+IsTicketLoad cancels = ⊥
+IsTicketLoad meets = Unit {0}
+IsTicketLoad misses = Unit {0}
+
 learned-is : (load : LoadStep) (k : ℕ) (x : CoreState) (payload : ℕ) → k < 2 ^ 40 → payload < 2 ^ 20
-    → learns load (word_of k x payload) ≡ learned_at load x
-learned-is counts k x payload low fits = refl
-learned-is watches k x payload low fits = refl
-learned-is polls k x payload low fits = word-learned served_in k x payload low fits
-learned-is cancels k x payload low fits = word-learned served_in k x payload low fits
-learned-is meets k x payload low fits = word-learned refused_in k x payload low fits
-learned-is misses k x payload low fits = word-learned cancelled_in k x payload low fits
+    → (j : ℕ) → (IsTicketLoad load → j ≡ k) → learns load j (word_of k x payload) ≡ learned_at load x
+learned-is counts k x payload low fits j at = refl
+learned-is watches k x payload low fits j at = refl
+learned-is polls k x payload low fits j at = word-learned served_in k x payload low fits
+learned-is cancels k x payload low fits j at = word-learned served_in k x payload low fits
+learned-is meets k x payload low fits j at =
+    ap (λ b. if b then learned_of refused_in (unpacked_cell (word_of k x payload)) else Nothing)
+    (eq-eqb (index_in (word_of k x payload)) j (word-number k x payload fits ∙ sym (at tt)))
+    ∙ word-learned refused_in k x payload low fits
+learned-is misses k x payload low fits j at = word-learned cancelled_in k x payload low fits
+
+-- by the number that a pass keeps of its ticket a load tells it what it tells
+pub learns-at : {E S : Type 0} (load : LoadStep) (v : View E S) (word number n : ℕ) → MayLoad load v word
+    → IsTicketOf v.facts.doing number → learns load number n ≡ learns load (number_at v.facts.doing) n
+learns-at counts v word number n may has = refl
+learns-at watches v word number n may has = refl
+learns-at polls v word number n may has = refl
+learns-at cancels v word number n may has = refl
+learns-at meets v word number n may has =
+    ap (λ k. learns meets k n) (has may.0 may.2 ∙ sym (ap number_at may.2))
+learns-at misses v word number n may has = refl
 
 -- The step of the queue that a load shows: it loads the cell at which its pass works, found in this state.
 record ShowsStep (load : LoadStep) (x : CoreState) (s : QueueStep) : Type 0 where
@@ -143,6 +177,7 @@ kept gains k n f = record {
   further = refl;
   spares = refl;
   open_slot = refl;
+  ticket = λ j e. e;
 }
 
 polls-waiter : ShowsStep polls state.Waiter (looks pends)
@@ -168,6 +203,7 @@ polls-waiter = record {
     further = refl;
     spares = refl;
     open_slot = refl;
+    ticket = λ j e. absurd (cc);
   };
 }
 
@@ -194,6 +230,7 @@ polls-resumed = record {
     further = refl;
     spares = refl;
     open_slot = refl;
+    ticket = λ j e. absurd (cc);
   };
 }
 
@@ -220,6 +257,7 @@ cancels-resumed = record {
     further = refl;
     spares = refl;
     open_slot = refl;
+    ticket = λ j e. absurd (cc);
   };
 }
 
@@ -246,6 +284,7 @@ meets-cancelled = record {
     further = refl;
     spares = refl;
     open_slot = refl;
+    ticket = λ j e. absurd (cc);
   };
 }
 
@@ -272,6 +311,7 @@ meets-refused = record {
     further = refl;
     spares = refl;
     open_slot = refl;
+    ticket = λ j e. absurd (cc);
   };
 }
 
@@ -298,6 +338,7 @@ misses-cancelled = record {
     further = refl;
     spares = refl;
     open_slot = refl;
+    ticket = λ j e. absurd (cc);
   };
 }
 
@@ -373,16 +414,66 @@ working cancels v k is may = record { does = may.0; own = may.1; at = tt; stand 
 working meets v k is may = record { does = may; own = tt; at = tt; stand = λ x m. m }
 working misses v k is may = record { does = may; own = tt; at = tt; stand = λ x m. m }
 
-same-number : (load : LoadStep) (k : ℕ) → IsWork load → IsNumber load k k
-same-number counts k is = absurd is
-same-number watches k is = absurd is
-same-number polls k is = refl
-same-number cancels k is = refl
-same-number meets k is = refl
-same-number misses k is = refl
-
 module _ {E S : Type 0} (object : Object E) (primitive : Primitive E S) (passes limit : ℕ)
     (client : IsClient object primitive) where
+  -- a load of this row leaves the words, which show the cells as the step leaves them
+  cells-loaded : (s : State (Option S) (View E S)) (r : Ruled object primitive passes limit s) (p k word payload : ℕ)
+      (row : CellRow) (found : CoreCell) (has : OwnHas) (is : IsCellRow row) (sound : IsSound r.hidden.queue)
+      (opens : IsOpenRow r.hidden.queue (at_cell row) p k (Some found)) → row.makes ≡ None
+      → CellsShow r.segments (happened_by object.gains r.hidden (at_cell row) p k (Some found) has payload)
+      (cell_count passes limit primitive.values) (slice_set s.words word (slice_index s.words word))
+  cells-loaded s r p k word payload row found has is sound opens loads =
+      let c = r.hidden in
+      let d = happened_by object.gains c (at_cell row) p k (Some found) has payload in
+      let same = loaded-same object.gains c p k row found has payload is sound opens loads in
+      let words : slice_set s.words word (slice_index s.words word) ≡ s.words = set-get_or s.words word 0 in
+      subst (CellsShow r.segments d (cell_count passes limit primitive.values)) (sym words)
+      (cells-same r.segments c d (cell_count passes limit primitive.values) s.words
+      (λ j. dite (ℕ_discrete j k)
+      (λ (e : j ≡ k). subst (λ z. state_at d.queue z ≡ state_at c.queue z) (sym e) same.0)
+      (λ (a : j ≢ k). state-else object.gains c p k row found has payload is sound opens j a))
+      (λ j. dite (ℕ_discrete j k)
+      (λ (e : j ≡ k). subst (λ z. d.payloads z ≡ c.payloads z) (sym e) same.1)
+      (λ (a : j ≢ k). payload-else object.gains c p k row found has payload is sound opens j a)) r.cells)
+
+  unsettled-wait : (s : State (Option S) (View E S)) (r : Ruled object primitive passes limit s) (id : ℕ) (v : View E S)
+      (k : ℕ) → get_elem? s.views id ≡ some v → 0 < v.weight → lists.Has k v.facts.waits → r.settled k ≡ false
+  unsettled-wait s r id v k here on has = ⊎_elim (λ z. z)
+      (λ (z : r.settled k ≡ true).
+      absurd ((r.finals k z).unwaited v.number ((r.each_view id v here on).stands.waits k has)))
+      (false-or-true (r.settled k))
+
+  -- two waits of a pass that stand at one word are one
+  same-wait : (s : State (Option S) (View E S)) (r : Ruled object primitive passes limit s) (id : ℕ) (v : View E S)
+      (k j word : ℕ) → get_elem? s.views id ≡ some v → 0 < v.weight → KnowsPlace v (place_at word k)
+      → KnowsPlace v (place_at word j) → lists.Has k v.facts.waits → lists.Has j v.facts.waits → k ≡ j
+  same-wait s r id v k j word here on a b mine too =
+      one-number r.segments r.hidden (cell_count passes limit primitive.values) s.words r.settled
+      (duties_in (λ (z : View E S). z.facts.duties) s.views) v word k j r.cells r.counted (r.each_segment id v
+      here).seen
+      (unsettled-wait s r id v k here on mine) (unsettled-wait s r id v j here on too) a b
+
+  -- what anybody finds who knows the place of the number k
+  watched : (s : State (Option S) (View E S)) (r : Ruled object primitive passes limit s) (id : ℕ) (v : View E S)
+      (k word : ℕ) → get_elem? s.views id ≡ some v → KnowsPlace v (place_at word k)
+      → (slice_index s.words word ≡ word_at r.hidden k)
+      ⊎ ((rank (state_at r.hidden.queue k) ≡ 4) × (k < index_in (slice_index s.words word)))
+  watched s r id v k word here place =
+      let cells = cell_count passes limit primitive.values in
+      let duties = duties_in (λ (z : View E S). z.facts.duties) s.views in
+      let knows = (r.each_segment id v here).seen in
+      ⊎_elim
+      (λ (yet : r.settled k ≡ false). inl (cell-at r.segments r.hidden cells s.words r.settled duties v k word r.cells
+      r.counted knows yet place).shows)
+      (λ (done : r.settled k ≡ true).
+      let there = found-there r.segments r.hidden cells s.words r.settled duties v k word r.cells r.counted knows
+      (λ j q. (r.finals j q).final) place in
+      let more = there.1 in
+      dite (ℕ_discrete (index_in (slice_index s.words word)) k)
+      (λ (e : index_in (slice_index s.words word) ≡ k). inl (there.0 e))
+      (λ (a : index_in (slice_index s.words word) ≢ k). inr ((r.finals k done).final, omega arith)))
+      (false-or-true (r.settled k))
+
   -- what a load of the cell of the number k tells, where it is made
   abbrev Learns : {C : Type 0} → (C → Primitive E S) → LoadStep → (s : State (Option S) (View E S)) → ℕ
       → Me (Option S) (View E S) → ℕ → ℕ → Type 0
@@ -390,7 +481,9 @@ module _ {E S : Type 0} (object : Object E) (primitive : Primitive E S) (passes 
       (w : View E S) × (a : Act (Option S)) × Valid s.homes me.1 a
       × Ruled object primitive passes limit (stepped s word (slice_index s.words word) id me.1 w a)
       × (Looked object all load k me.0 (slice_index s.words word) w × (carried_after me.1 a ≡ me.1) × IsLive object w
-      × CarriesLearned object.gains.held (learns load (slice_index s.words word)) me.0.facts w.facts × IsSame me.0 w)
+      × CarriesLearned object.gains.held (learns load (number_at me.0.facts.doing) (slice_index s.words word))
+      me.0.facts
+      w.facts × IsSame me.0 w)
 
   -- a load of the cell of the number k, which stands at this word
   learns-so : {C : Type 0} (all : C → Primitive E S) (y : C) → all y ≡ primitive → (load : LoadStep)
@@ -432,9 +525,10 @@ module _ {E S : Type 0} (object : Object E) (primitive : Primitive E S) (passes 
       stood = works-at c passes limit primitive.values v.number k
           (stage_of load) f r.room sound at job.does job.own job.at
 
-      stands : CellAt r.segments c s.words k word
-      stands = cell-at r.segments c (cell_count passes limit primitive.values) s.words none_settled no_duties v k word
-          r.cells r.counted (r.each_segment id v here).seen refl place
+      seen : (slice_index s.words word ≡ word_at c k) ⊎ ((state_at c.queue k ≡ state.Cancelled)
+          × IsSmart primitive.manner.leaving × (k < index_in (slice_index s.words word)))
+      seen = seen-word object primitive passes limit client s r id v k word (stage_of load) here job.at sound stood at
+          job.does job.own place
 
       g : Glimpse
       g = record { number = k; state = x; payload = c.payloads k }
@@ -444,16 +538,55 @@ module _ {E S : Type 0} (object : Object E) (primitive : Primitive E S) (passes 
           r.room.few_values in omega arith
 
       cell : FoundCell n g
-      cell = record { word = stands.shows; number = low; fits = r.cells.fits k; bare = r.cells.bare k }
+      cell = record {
+        word = ⊎_elim inl (λ t. inr (t.0, t.2)) seen;
+        number = low;
+        fits = r.cells.fits k;
+        bare = r.cells.bare k;
+      }
 
       stand : MayStand load x
       stand = job.stand x (subst (MayFind (stage_of load)) (ap state_in (sym stood.there)) stood.may)
 
-      number : IsNumber load k k
-      number = same-number load k is
+      number-is : (l : LoadStep) → IsTicketLoad l → MayLook l v k → number_at f.doing ≡ k
+      number-is counts t m = absurd t
+      number-is watches t m = absurd t
+      number-is polls t m = absurd t
+      number-is cancels t m = absurd t
+      number-is meets t m = ap number_at m
+      number-is misses t m = ap number_at m
 
-      tells : learns load n ≡ learned_at load x
-      tells = ap (learns load) stands.shows ∙ learned-is load k x (c.payloads k) low (r.cells.fits k)
+      may-here : MayFind (stage_of load) x
+      may-here = subst (MayFind (stage_of load)) (ap state_in (sym stood.there)) stood.may
+
+      gone : (l : LoadStep) → IsWork l → MayFind (stage_of l) x → LoadSuits primitive.manner l → MayLook l v k
+          → x ≡ state.Cancelled → IsSmart primitive.manner.leaving → k < index_in n
+          → learns l (number_at f.doing) n ≡ learned_at l x
+      gone counts w m u a e q z = refl
+      gone watches w m u a e q z = refl
+      gone polls w m u a e q z = absurd (subst (MayFind stage.idle) e m)
+      gone cancels w m u a e q z = absurd (subst (MayFind stage.idle) e m)
+      gone meets w m u a e q z =
+          ap (λ b. if b then learned_of refused_in (unpacked_cell n) else Nothing)
+          (ne_eqb (index_in n) (number_at f.doing) (λ same. let d = ap number_at a in omega arith))
+          ∙ ap (λ y. refused_in (shown_state y)) (sym e)
+      gone misses w m u a e q z = absurd (smart-once primitive.manner.leaving q u)
+
+      tells : learns load (number_at f.doing) n ≡ learned_at load x
+      tells = ⊎_elim
+          (λ (word-is : n ≡ word_at c k). ap (learns load (number_at f.doing)) word-is
+          ∙ learned-is load k x (c.payloads k) low (r.cells.fits k) (number_at f.doing) (λ t. number-is load t may))
+          (λ t. gone load is may-here suits may t.0 t.1 t.2)
+          seen
+
+      wait-of : (l : LoadStep) → IsWork l → MayFind (stage_of l) x → MayLook l v k → x ≡ state.Resumed
+          → IsWaitOf c.queue v.number k
+      wait-of counts w m a e = absurd w
+      wait-of watches w m a e = absurd w
+      wait-of polls w m a e = at.waits k a.1
+      wait-of cancels w m a e = at.waits k a.1
+      wait-of meets w m a e = absurd (subst (MayFind stage.ticket) e m)
+      wait-of misses w m a e = absurd (subst (MayFind stage.ticket) e m)
 
       by : (o : Option QueueStep) → event_of load x ≡ o → Learns all load s id me k word
       by None e =
@@ -468,7 +601,8 @@ module _ {E S : Type 0} (object : Object E) (primitive : Primitive E S) (passes 
             once = at.once;
             last = at.last;
             behind = record { reached = at.behind.reached; passed = at.behind.passed };
-          }) known.payload_fits (keeps-all primitive.opens v facts refl (λ j o. o)) (draws-cell f.found k n) refl in
+          }) known.payload_fits (keeps-all primitive.opens v facts refl (λ j o. o)) (draws-cell f.found k n) refl refl
+          in
           let w : View E S = grown v facts (r.log ++ []) r.handed in (
             w,
             keeps,
@@ -477,7 +611,7 @@ module _ {E S : Type 0} (object : Object E) (primitive : Primitive E S) (passes 
             (
               record {
                 glimpse = g;
-                number = number;
+                number = refl;
                 cell = cell;
                 may = stand;
                 since = since-last c k f.last at.last;
@@ -513,9 +647,17 @@ module _ {E S : Type 0} (object : Object E) (primitive : Primitive E S) (passes 
             subst (λ z. MayWork z v.number stood.cell) show.at stood.works,
           ) in
           let same = loaded-same object.gains c v.number k row stood.cell f.has pay row_is sound opens show.loads in
+          let behind = place-behind v k word place in
+          let fit = show.suits primitive.manner suits in
+          let yet : settles_row row ≡ true → r.settled k ≡ false = λ e.
+          ⊎_elim (λ z. z) (λ (z : r.settled k ≡ true). absurd
+          (subst (λ q. Unsettled primitive.manner c.queue v.number k stood.cell q) show.is
+          (unsettled primitive.manner c.queue v.number k stood.cell st fit) opens
+          (λ q. wait-of load is may-here may (show.finds ∙ q)) (r.finals k z) e)) (false-or-true (r.settled k)) in
           let done = works object primitive passes limit client s r id me st row k word n pay stood.cell show.is here
-          one (show.suits primitive.manner suits) opens stands refl
-          (stands.shows ∙ (λ i. word_of k (sym same.0 i) (sym same.1 i))) in
+          one fit opens behind.0 behind.1 yet refl
+          (cells-loaded s r v.number k word pay row stood.cell f.has row_is sound opens
+          show.loads) in
           let w : View E S = grown v facts (r.log ++ es) r.handed in (
             w,
             keeps,
@@ -524,7 +666,7 @@ module _ {E S : Type 0} (object : Object E) (primitive : Primitive E S) (passes 
             (
               record {
                 glimpse = g;
-                number = number;
+                number = refl;
                 cell = cell;
                 may = stand;
                 since = since-last c k f.last at.last;
@@ -549,22 +691,17 @@ module _ {E S : Type 0} (object : Object E) (primitive : Primitive E S) (passes 
           )
 
   -- a load of a cell with no event
-  watches-cell : {C : Type 0} (all : C → Primitive E S) (y : C) → all y ≡ primitive
-      → (s : State (Option S) (View E S)) (r : Ruled object primitive passes limit s) (id : ℕ)
-      (me : Me (Option S) (View E S))
-      (k word : ℕ) → get_elem? s.views id ≡ some me.0 → me.0.weight ≡ 1 → k < me.0.cells
-      → KnowsPlace me.0 (place_at word k)
-      → Learns all watches s id me k word
-  watches-cell all y all_is s r id me k word here one below place =
+  watched-at : {C : Type 0} (all : C → Primitive E S) (y : C) → all y ≡ primitive → (slots id : ℕ)
+      (me : Me (Option S) (View E S)) (word : ℕ) → me.0.weight ≡ 1
+      → Allows (Ruled object primitive passes limit) slots id me word (λ n. n)
+      (loaded_by object all watches (step slots word 0 0 none) me)
+  watched-at all y all_is slots id me word one s r _ here small =
       let v = me.0 in let f = v.facts in let c = r.hidden in
       let n = slice_index s.words word in
       let known = r.each_view id v here (omega arith) in
       let at = known.stands in
       let cells_are = known.cells_are in
-      let stands = cell-at r.segments c (cell_count passes limit primitive.values) s.words none_settled no_duties v k
-      word r.cells r.counted (r.each_segment id v here).seen refl place in
-      let g : Glimpse = record { number = k; state = state_at c.queue k; payload = c.payloads k } in
-      let facts = facts_watched k n f in
+      let facts = facts_watched (index_in n) n f in
       let done = looks-to object primitive passes limit client s r id me word facts here one
       (record {
         doing = at.doing;
@@ -575,7 +712,8 @@ module _ {E S : Type 0} (object : Object E) (primitive : Primitive E S) (passes 
         once = at.once;
         last = at.last;
         behind = record { reached = at.behind.reached; passed = at.behind.passed };
-      }) known.payload_fits (keeps-all primitive.opens v facts refl (λ j o. o)) (draws-cell f.found k n) refl in
+      }) known.payload_fits (keeps-all primitive.opens v facts refl (λ j o. o)) (draws-cell f.found (index_in n) n) refl
+      refl in
       let w : View E S = grown v facts (r.log ++ []) r.handed in (
         w,
         keeps,
@@ -583,39 +721,51 @@ module _ {E S : Type 0} (object : Object E) (primitive : Primitive E S) (passes 
         done.0,
         (
           record {
-            glimpse = g;
-            number = omega arith;
-            cell = record {
-              word = stands.shows;
-              number = let l = r.room.low_limit in let q = r.room.few_passes in let u =
-                  r.room.few_values in omega arith;
-              fits = r.cells.fits k;
-              bare = r.cells.bare k;
-            };
-            may = tt;
-            since = since-last c k f.last at.last;
             saw = done.1;
-            was = found-so object primitive passes limit client all y all_is s r w (HasCell g) [] known.opening_is refl
-                (refl, refl);
+            cells = λ k place below. record {
+              glimpse = record { number = k; state = state_at c.queue k; payload = c.payloads k };
+              number = refl;
+              cell = record {
+                word = watched s r id v k word here place;
+                number = let l = r.room.low_limit in let q = r.room.few_passes in let u =
+                    r.room.few_values in omega arith;
+                fits = r.cells.fits k;
+                bare = r.cells.bare k;
+              };
+              since = since-last c k f.last at.last;
+              was = found-so object primitive passes limit client all y all_is s r w
+                  (HasCell (record { number = k; state = state_at c.queue k; payload = c.payloads k })) []
+                  known.opening_is refl (refl, refl);
+            };
           },
           refl,
           done.2,
-          kept object.gains.held k n f,
+          kept object.gains.held (index_in n) n f,
           done.1.same,
         ),
       )
 
+  -- two numbers at which a pass may load one word so are one
+  one-load : (load : LoadStep) (s : State (Option S) (View E S)) (r : Ruled object primitive passes limit s) (id : ℕ)
+      (v : View E S) (k j word : ℕ) → get_elem? s.views id ≡ some v → 0 < v.weight → IsWork load
+      → KnowsPlace v (place_at word k) → KnowsPlace v (place_at word j) → MayLook load v k → MayLook load v j → k ≡ j
+  one-load counts s r id v k j word here on is a b may too = absurd is
+  one-load watches s r id v k j word here on is a b may too = absurd is
+  one-load polls s r id v k j word here on is a b may too = same-wait s r id v k j word here on a b may.1 too.1
+  one-load cancels s r id v k j word here on is a b may too = same-wait s r id v k j word here on a b may.1 too.1
+  one-load meets s r id v k j word here on is a b may too = ap number_at (sym may ∙ too)
+  one-load misses s r id v k j word here on is a b may too = ap number_at (sym may ∙ too)
+
   -- the load of a cell that the pass knows to stand at the word, whichever it is
   any-cell : {C : Type 0} (all : C → Primitive E S) (load : LoadStep) (s : State (Option S) (View E S))
       (r : Ruled object primitive passes limit s) (id : ℕ)
-      (me : Me (Option S) (View E S)) (k word : ℕ) → get_elem? s.views id ≡ some me.0
-      → KnowsPlace me.0 (place_at word k) → (w : View E S)
+      (me : Me (Option S) (View E S)) (k word : ℕ) → get_elem? s.views id ≡ some me.0 → 0 < me.0.weight → IsWork load
+      → KnowsPlace me.0 (place_at word k) → MayLook load me.0 k → (w : View E S)
       → Looked object all load k me.0 (slice_index s.words word) w
       → LoadedCell object all load word me.0 (slice_index s.words word) w
-  any-cell all load s r id me k word here place w looked = λ j there may.
+  any-cell all load s r id me k word here on is place may w looked = λ j there too.
       subst (λ z. Looked object all load z me.0 (slice_index s.words word) w)
-      (one-number r.segments r.hidden (cell_count passes limit primitive.values) s.words none_settled no_duties me.0
-      word k j r.cells r.counted (r.each_segment id me.0 here).seen refl refl place there) looked
+      (one-load load s r id me.0 k j word here on is place there may too) looked
 
   -- a load of the table
   pub loads : {C : Type 0} (all : C → Primitive E S) (y : C) → all y ≡ primitive → (slots id : ℕ)
@@ -625,21 +775,64 @@ module _ {E S : Type 0} (object : Object E) (primitive : Primitive E S) (passes 
       (loaded_by object all load (step slots word 0 0 none) me)
   loads all y all_is slots id me counts word one suits may s r homes here small =
       counted-at object primitive passes limit client all y all_is slots id me word one may s r homes here small
-  loads all y all_is slots id me watches word one suits may s r _ here small =
-      let t = watches-cell all y all_is s r id me may.0 word here one may.2 may.1 in
-      (t.0, t.1, t.2, t.3, (any-cell all watches s r id me may.0 word here may.1 t.0 t.4.0, t.4.1, t.4.2, t.4.3, t.4.4))
+  loads all y all_is slots id me watches word one suits may s r homes here small =
+      watched-at all y all_is slots id me word one s r homes here small
   loads all y all_is slots id me polls word one suits may s r _ here small =
-      let t = learns-so all y all_is polls s r id me may.0 word here one suits tt may.2 may.1 in
-      (t.0, t.1, t.2, t.3, (any-cell all polls s r id me may.0 word here may.1 t.0 t.4.0, t.4.1, t.4.2, t.4.3, t.4.4))
+      let t = learns-so all y all_is polls s r id me may.0 word here one suits tt may.2 may.1 in (
+        t.0,
+        t.1,
+        t.2,
+        t.3,
+        (
+          any-cell all polls s r id me may.0 word here (omega arith) tt may.1 may.2 t.0 t.4.0,
+          t.4.1,
+          t.4.2,
+          t.4.3,
+          t.4.4,
+        ),
+      )
   loads all y all_is slots id me cancels word one suits may s r _ here small =
-      let t = learns-so all y all_is cancels s r id me may.0 word here one suits tt may.2 may.1 in
-      (t.0, t.1, t.2, t.3, (any-cell all cancels s r id me may.0 word here may.1 t.0 t.4.0, t.4.1, t.4.2, t.4.3, t.4.4))
+      let t = learns-so all y all_is cancels s r id me may.0 word here one suits tt may.2 may.1 in (
+        t.0,
+        t.1,
+        t.2,
+        t.3,
+        (
+          any-cell all cancels s r id me may.0 word here (omega arith) tt may.1 may.2 t.0 t.4.0,
+          t.4.1,
+          t.4.2,
+          t.4.3,
+          t.4.4,
+        ),
+      )
   loads all y all_is slots id me meets word one suits may s r _ here small =
-      let t = learns-so all y all_is meets s r id me may.0 word here one suits tt may.2 may.1 in
-      (t.0, t.1, t.2, t.3, (any-cell all meets s r id me may.0 word here may.1 t.0 t.4.0, t.4.1, t.4.2, t.4.3, t.4.4))
+      let t = learns-so all y all_is meets s r id me may.0 word here one suits tt may.2 may.1 in (
+        t.0,
+        t.1,
+        t.2,
+        t.3,
+        (
+          any-cell all meets s r id me may.0 word here (omega arith) tt may.1 may.2 t.0 t.4.0,
+          t.4.1,
+          t.4.2,
+          t.4.3,
+          t.4.4,
+        ),
+      )
   loads all y all_is slots id me misses word one suits may s r _ here small =
-      let t = learns-so all y all_is misses s r id me may.0 word here one suits tt may.2 may.1 in
-      (t.0, t.1, t.2, t.3, (any-cell all misses s r id me may.0 word here may.1 t.0 t.4.0, t.4.1, t.4.2, t.4.3, t.4.4))
+      let t = learns-so all y all_is misses s r id me may.0 word here one suits tt may.2 may.1 in (
+        t.0,
+        t.1,
+        t.2,
+        t.3,
+        (
+          any-cell all misses s r id me may.0 word here (omega arith) tt may.1 may.2 t.0 t.4.0,
+          t.4.1,
+          t.4.2,
+          t.4.3,
+          t.4.4,
+        ),
+      )
 
 -- the word of a load is one of the table's
 pub load-low : {E S : Type 0} (v : View E S) (word : ℕ) (load : LoadStep) → IsInside v → MayLoad load v word

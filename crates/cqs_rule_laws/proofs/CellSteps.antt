@@ -1,7 +1,7 @@
 -- The steps at a cell: each keeps the rule, and tells what its row says. An exchange is made where the cell was found
 -- as the row wants it, and else shows nothing.
-use Rattle.std.proofs.Common.{◌≡◌, ℕ, ◌+◌, ◌<◌, ◌^◌, Bool, List, [], ◌∷◌, ◌++◌, length, sym, refl, ap, ◌∙◌, subst, inl, arith, Option, Some, None, slice_get, eq-eqb, ne_eqb, eqb, if◌then◌else◌}
-use Rattle.std.specs.Prelude.{slice_index}
+use Rattle.std.proofs.Common.{◌≡◌, ℕ, ◌+◌, ◌<◌, ◌^◌, Bool, true, false, ◌⊎◌, ◌≢◌, ⊎_elim, inr, List, [], ◌∷◌, ◌++◌, length, sym, refl, ap, ◌∙◌, subst, inl, arith, Option, Some, None, slice_get, eq-eqb, ne_eqb, eqb, if◌then◌else◌}
+use Rattle.std.specs.Prelude.{slice_index, slice_set}
 use Rattle.std.proofs.lemmas.List.{length-set, length-append}
 use Rattle.std.proofs.lemmas.Option.{same_Some}
 use mathlib.Core.Logic.{dite}
@@ -20,11 +20,9 @@ use Rattle.cqs_core.specs.QueueStages.{Stage, doing_at, MayFind, MayWork}
 use Rattle.cqs_core.specs.QueueSteps.{QueueStep, row_of, StepRow, CellRow, at_counter, at_cell, Gain, nothing, its_own, a_debt, payload_told, state_made, IsOpenRow, cell_after, WaitChange, wait_stays, wait_opens, wait_closes}
 use Rattle.cqs_core.proofs.Places.{get-set_here}
 use Rattle.cqs_core.proofs.QueueRows.{rows, row-of}
-use Rattle.cqs_core.proofs.QueueUniform.{IsCellRow, IsRow, IsAtCell, IsInside, has-cell, turns, TellsWait, IsOwnChange}
-use Rattle.cqs_words.specs.declared.cell.CellState.{CellState}
-use Rattle.cqs_words.specs.declared.cell.CellState.TheVariants as shown
-use Rattle.cqs_words.specs.Cell.{state_code, index_in}
-use Rattle.cqs_words.proofs.CellLaws.{state_code-below, state_code-injective, cell_word-injective}
+use Rattle.cqs_core.specs.QueueCells.{rank}
+use Rattle.cqs_core.proofs.QueueUniform.{IsCellRow, IsRow, IsAtCell, IsInside, has-cell, turns, TellsWait, IsOwnChange, GoesOn as RowGoesOn}
+use Rattle.cqs_words.specs.Cell.{index_in}
 use Rattle.cqs_rule_laws.specs.declared.view.View.{View}
 use Rattle.cqs_rule_laws.specs.declared.view.Facts.{Facts}
 use Rattle.cqs_rule_laws.specs.declared.view.Glimpse.{Glimpse}
@@ -36,14 +34,18 @@ use Rattle.cqs_rule_laws.specs.Facts.{facts_worked, facts_missed, waits_then, is
 use Rattle.cqs_rule_laws.specs.Kinds.{Carries, gains_own, owes_at_stage, waits_by, opened, closed}
 use Rattle.cqs_rule_laws.specs.Hidden.{Hidden, Gains, has_gained, has_after, happened_by, state_in, state_at}
 use Rattle.cqs_rule_laws.specs.Inside.{IsInside as InView}
-use Rattle.cqs_rule_laws.specs.Layout.{client_words, words_for}
+use Rattle.cqs_rule_laws.specs.Layout.{client_words, client_place, words_for, IsIdle}
 use Rattle.cqs_rule_laws.specs.Lists as lists
-use Rattle.cqs_rule_laws.specs.Manner.{Suits}
+use Rattle.cqs_rule_laws.specs.Manner.{Suits, IsSmart}
+use Rattle.cqs_rule_laws.specs.Placed.{KnowsPlace, place_at}
+use Rattle.cqs_rule_laws.specs.Settling.{settles_row, settled_then, duties_in}
+use Rattle.cqs_slots.proofs.Lists.{changed_else}
 use Rattle.cqs_rule_laws.specs.Object.{Object, Primitive}
-use Rattle.cqs_rule_laws.specs.Ruled.{Ruled, Knows, Stands, HasRoom, IsSince, HasGoneOn, cell_count, number_at, shown_state, word_of, none_settled, no_duties}
+use Rattle.cqs_rule_laws.specs.Ruled.{Ruled, Knows, Stands, HasRoom, IsSince, HasGoneOn, cell_count, number_at, word_of, word_at, CellsShow, IsFinal}
 use Rattle.cqs_rule_laws.specs.Saw.{IsLive}
 use Rattle.cqs_rule_laws.specs.Views.{grown}
 use Rattle.cqs_rule_laws.proofs.CellsStand.{CellAt, cell-at, set-cell, place-low}
+pub use Rattle.cqs_rule_laws.proofs.WordOf.{shown-injective, word_of-injective}
 use Rattle.cqs_rule_laws.proofs.Advance.{Turned}
 use Rattle.cqs_rule_laws.proofs.Cells.{installed-drawn, idle-stands}
 use Rattle.cqs_rule_laws.proofs.Lists.{length_without}
@@ -55,48 +57,11 @@ use Rattle.cqs_rule_laws.proofs.Others.{door-keeps}
 use Rattle.cqs_slots.proofs.Loads.{later-same}
 use Rattle.cqs_rule_laws.proofs.Tells.{Steps, steps, inside-of, suspends-low, resumes-low}
 use Rattle.cqs_rule_laws.proofs.Words.{crew-else, counters-else, idle-else, client-above}
-use Rattle.cqs_rule_laws.proofs.Worked.{state-else, payload-else, payload-here, state-here, bare-here, left-fits, others-worked, worked-self, gained-fits}
-
--- the state that a word's state stands for
-back_state : CellState → CoreState
-back_state shown.Empty = state.Empty
-back_state shown.Waiter = state.Waiter
-back_state shown.Value = state.Value
-back_state shown.Taken = state.Taken
-back_state shown.Broken = state.Broken
-back_state shown.Resumed = state.Resumed
-back_state shown.Cancelling = state.Cancelling
-back_state shown.Delegated = state.Delegated
-back_state shown.Cancelled = state.Cancelled
-back_state shown.Refused = state.Refused
-
-back-shown : (s : CoreState) → back_state (shown_state s) ≡ s
-unfolding back_state
-back-shown state.Empty = refl
-back-shown state.Waiter = refl
-back-shown state.Value = refl
-back-shown state.Taken = refl
-back-shown state.Broken = refl
-back-shown state.Resumed = refl
-back-shown state.Cancelling = refl
-back-shown state.Delegated = refl
-back-shown state.Cancelled = refl
-back-shown state.Refused = refl
-
--- a word's state is that of one state
-pub shown-injective : (s t : CoreState) → shown_state s ≡ shown_state t → s ≡ t
-shown-injective s t same = sym (back-shown s) ∙ (ap back_state same ∙ back-shown t)
-
--- one word is that of one cell
-pub word_of-injective : (j k : ℕ) (s t : CoreState) (p q : ℕ) → p < 2 ^ 20 → q < 2 ^ 20 → word_of j s p ≡ word_of k t q
-    → (j ≡ k) × (s ≡ t) × (p ≡ q)
-word_of-injective j k s t p q p_fits q_fits same =
-    let low = state_code-below (shown_state s) in
-    let low' = state_code-below (shown_state t) in
-    let parts = cell_word-injective j k (state_code (shown_state s)) (state_code (shown_state t)) p q (omega arith)
-    (omega arith) p_fits q_fits same in
-    let states : shown_state s ≡ shown_state t = state_code-injective (shown_state s) (shown_state t) parts.1 in
-    (parts.0, shown-injective s t states, parts.2)
+use Rattle.cqs_rule_laws.proofs.Duties.{counts-then}
+use Rattle.cqs_rule_laws.proofs.Settled.{rank-most, NoTicket, no-ticket-after, Settled, final-after, finals-on}
+use Rattle.cqs_rule_laws.proofs.Stale.{found-there, stale-fails, false-or-true}
+use Rattle.cqs_rule_laws.proofs.Staying.{OthersStay}
+use Rattle.cqs_rule_laws.proofs.Worked.{states-final, waits-final, state-else, payload-else, payload-here, state-here, bare-here, left-fits, others-worked, worked-self, gained-fits}
 
 -- no step at a cell leads to the door
 no-door : (at : Stage) (k : ℕ) → IsInside at → doing_at at k ≡ doing.Door → ⊥
@@ -252,22 +217,144 @@ worked-carries gains row k n payload f once own = record {
 
 module _ {E S : Type 0} (object : Object E) (primitive : Primitive E S) (passes limit : ℕ)
     (client : IsClient object primitive) where
-  -- A step of this row is made at the cell of the number k, which stands at this word: the word becomes that of the
-  -- cell as the step leaves it.
+  -- what a pass finds that works at the number k: its cell's word, or that of a later number where the cell is
+  -- cancelled
+  -- and its segment gone
+  pub seen-word : (s : State (Option S) (View E S)) (r : Ruled object primitive passes limit s) (id : ℕ) (v : View E S)
+      (k word : ℕ) (at : Stage) → get_elem? s.views id ≡ some v → IsAtCell at → IsSound r.hidden.queue
+      → WorksAt r.hidden (cell_count passes limit primitive.values) v.number k at → Stands r.hidden v.number v.facts
+      → v.facts.doing ≡ doing_at at k → IsOwnWait at k v.facts → KnowsPlace v (place_at word k)
+      → (slice_index s.words word ≡ word_at r.hidden k)
+      ⊎ ((state_at r.hidden.queue k ≡ state.Cancelled) × IsSmart primitive.manner.leaving
+      × (k < index_in (slice_index s.words word)))
+  seen-word s r id v k word at here is sound stood stands does own place = ⊎_elim
+      (λ (yet : r.settled k ≡ false). inl (cell-at r.segments r.hidden (cell_count passes limit primitive.values)
+      s.words
+      r.settled (duties_in (λ (z : View E S). z.facts.duties) s.views) v k word r.cells r.counted
+      (r.each_segment id v here).seen yet place).shows)
+      (λ (done : r.settled k ≡ true).
+      let final = r.finals k done in
+      let there = found-there r.segments r.hidden (cell_count passes limit primitive.values) s.words r.settled
+      (duties_in (λ (z : View E S). z.facts.duties) s.views) v k word r.cells r.counted (r.each_segment id v here).seen
+      (λ j q. (r.finals j q).final) place in
+      let more = there.1 in
+      dite (ℕ_discrete (index_in (slice_index s.words word)) k)
+      (λ (e : index_in (slice_index s.words word) ≡ k). inl (there.0 e))
+      (λ (a : index_in (slice_index s.words word) ≢ k). let t = ticket at final is stood.may does own in inr
+      (t.0, t.1, omega arith)))
+      (false-or-true (r.settled k))
+    where
+      rank-is : IsFinal (IsSmart primitive.manner.leaving) r.hidden.queue k → rank stood.cell.state ≡ 4
+      rank-is f = sym (ap rank (ap state_in stood.there)) ∙ f.final
+
+      untaken : (x : CoreState) → MayFind stage.drawn x → rank x ≡ 4 → ⊥
+      untaken state.Empty m h = omega arith
+      untaken state.Value m h = omega arith
+      untaken state.Waiter m h = m
+      untaken state.Taken m h = m
+      untaken state.Broken m h = m
+      untaken state.Resumed m h = m
+      untaken state.Cancelling m h = m
+      untaken state.Delegated m h = m
+      untaken state.Cancelled m h = m
+      untaken state.Refused m h = m
+
+      cancelling : (x : CoreState) → MayFind stage.leaving x → rank x ≡ 4 → ⊥
+      cancelling state.Cancelling m h = omega arith
+      cancelling state.Delegated m h = omega arith
+      cancelling state.Empty m h = m
+      cancelling state.Value m h = m
+      cancelling state.Waiter m h = m
+      cancelling state.Taken m h = m
+      cancelling state.Broken m h = m
+      cancelling state.Resumed m h = m
+      cancelling state.Cancelled m h = m
+      cancelling state.Refused m h = m
+
+      ticket : (a : Stage) → IsFinal (IsSmart primitive.manner.leaving) r.hidden.queue k → IsAtCell a
+          → MayFind a stood.cell.state → v.facts.doing ≡ doing_at a k → IsOwnWait a k v.facts
+          → (state_at r.hidden.queue k ≡ state.Cancelled) × IsSmart primitive.manner.leaving
+      ticket stage.idle f i m d o = absurd (f.unwaited v.number (stands.waits k o))
+      ticket stage.door f i m d o = absurd i
+      ticket stage.owes f i m d o = absurd i
+      ticket stage.drawn f i m d o = absurd (untaken stood.cell.state m (rank-is f))
+      ticket stage.ticket f i m d o = f.met v.number (stands.doing ∙ ap Some d)
+      ticket stage.leaving f i m d o = absurd (cancelling stood.cell.state m (rank-is f))
+      ticket (stage.decided on) f i m d o = absurd (cancelling stood.cell.state m (rank-is f))
+
+  -- what such a step leaves of the cells, where its own stands at the word, and is written as the row says
+  cells-worked : (s : State (Option S) (View E S)) (r : Ruled object primitive passes limit s) (p k word x payload : ℕ)
+      (row : CellRow) (found : CoreCell) (has : Has) (is : IsCellRow row) (sound : IsSound r.hidden.queue)
+      (opens : IsOpenRow r.hidden.queue (at_cell row) p k (Some found)) → payload < 2 ^ 20
+      → CellAt r.segments r.hidden s.words k word
+      → x ≡ word_of k
+      (state_at (happened_by object.gains r.hidden (at_cell row) p k (Some found) has payload).queue k)
+      ((happened_by object.gains r.hidden (at_cell row) p k (Some found) has payload).payloads k)
+      → CellsShow r.segments (happened_by object.gains r.hidden (at_cell row) p k (Some found) has payload)
+      (cell_count passes limit primitive.values) (slice_set s.words word x)
+  cells-worked s r p k word x payload row found has is sound opens fits stands written =
+      let c = r.hidden in
+      let d = happened_by object.gains c (at_cell row) p k (Some found) has payload in
+      set-cell r.segments c d (cell_count passes limit primitive.values) s.words k word x r.cells stands
+      (state-else object.gains c p k row found has payload is sound opens)
+      (payload-else object.gains c p k row found has payload is sound opens) written
+      (subst (λ z. z < 2 ^ 20) (sym (payload-here object.gains c p k row found has payload is sound opens))
+      (left-fits row.brings payload (c.payloads k) fits (r.cells.fits k)))
+      (bare-here object.gains c p k row found has payload is sound opens r.cells.bare)
+
+  -- what is settled after a step of this row at the number k is final
+  works-finals : (c : Hidden) (settled : ℕ → Bool) (st : QueueStep) (row : CellRow) (p k payload : ℕ) (found : CoreCell)
+      (has : Has) (f g : Facts) (is : row_of st ≡ at_cell row) (row_is : IsCellRow row) (sound : IsSound c.queue)
+      (opens : IsOpenRow c.queue (at_cell row) p k (Some found)) → Suits primitive.manner st
+      → OthersStay c (happened_by object.gains c (at_cell row) p k (Some found) has payload) p → Stands c p f
+      → Stands (happened_by object.gains c (at_cell row) p k (Some found) has payload) p g
+      → g.waits ≡ waits_then row.wait k f.waits → g.doing ≡ doing_at row.goes_to k
+      → ((j : ℕ) → settled j ≡ true → IsFinal (IsSmart primitive.manner.leaving) c.queue j)
+      → (b : Bool) → settles_row row ≡ b → (j : ℕ) → settled_then b settled k j ≡ true
+      → IsFinal (IsSmart primitive.manner.leaving)
+      (happened_by object.gains c (at_cell row) p k (Some found) has payload).queue j
+  works-finals c settled st row p k payload found has f g is row_is sound opens suits others before after waits goes
+      old b e = by b e
+    where
+      d : Hidden
+      d = happened_by object.gains c (at_cell row) p k (Some found) has payload
+
+      stay : (j : ℕ) → settled j ≡ true → IsFinal (IsSmart primitive.manner.leaving)
+          (happened_by object.gains c (at_cell row) p k (Some found) has payload).queue j
+      stay = finals-on (IsSmart primitive.manner.leaving) c
+          (happened_by object.gains c (at_cell row) p k (Some found) has payload) p settled f g others before after
+          (states-final object.gains c p k row found has payload row_is sound opens)
+          (λ j high h. waits-final object.gains c p k row found has payload row_is sound opens f j high
+          (subst (lists.Has j) waits h))
+          (λ j q. absurd (subst (λ (z : StepRow). NoTicket z) is (no-ticket-after st) k j (sym goes ∙ q)))
+          (omega arith) old
+
+      by : (b : Bool) → settles_row row ≡ b → (j : ℕ) → settled_then b settled k j ≡ true
+          → IsFinal (IsSmart primitive.manner.leaving)
+          (happened_by object.gains c (at_cell row) p k (Some found) has payload).queue j
+      by false e j yet = stay j yet
+      by true e j yet = dite (ℕ_discrete j k)
+          (λ (q : j ≡ k). subst (IsFinal (IsSmart primitive.manner.leaving)
+          (happened_by object.gains c (at_cell row) p k (Some found) has payload).queue) (sym q)
+          (subst (λ (z : StepRow). Settled primitive.manner c.queue p k found sound z) is
+          (final-after primitive.manner c.queue p k found sound st suits) opens e))
+          (λ (a : j ≢ k). stay j (sym (changed_else settled k true j a) ∙ yet))
+
+  -- A step of this row is made at the cell of the number k, at this word: the words show the cells as the step leaves
+  -- them.
   pub works : (s : State (Option S) (View E S)) (r : Ruled object primitive passes limit s) (id : ℕ)
       (me : Me (Option S) (View E S)) (st : QueueStep) (row : CellRow) (k word x payload : ℕ) (found : CoreCell)
       → row_of st ≡ at_cell row → get_elem? s.views id ≡ some me.0 → me.0.weight ≡ 1 → Suits primitive.manner st
-      → IsOpenRow r.hidden.queue (at_cell row) me.0.number k (Some found) → CellAt r.segments r.hidden s.words k word
+      → IsOpenRow r.hidden.queue (at_cell row) me.0.number k (Some found) → client_place 3 < word
+      → ((j : ℕ) → IsIdle j → j ≢ word) → (settles_row row ≡ true → r.settled k ≡ false)
       → payload ≡ payload_told row.gain (r.hidden.payloads k) me.0.facts.has.payload
-      → x ≡ word_of k
-      (state_at (happened_by object.gains r.hidden (at_cell row) me.0.number k
-      (Some found) me.0.facts.has payload).queue k)
-      ((happened_by object.gains r.hidden (at_cell row) me.0.number k (Some found) me.0.facts.has payload).payloads k)
+      → CellsShow r.segments (happened_by object.gains r.hidden (at_cell row) me.0.number k
+      (Some found) me.0.facts.has payload) (cell_count passes limit primitive.values) (slice_set s.words word x)
       → Steps object primitive passes limit client s id me word x (object.entries st me.0.number k payload)
       (facts_worked object.gains row k (slice_index s.words word) payload me.0.facts)
       (grown me.0 (facts_worked object.gains row k (slice_index s.words word) payload me.0.facts)
       (r.log ++ object.entries st me.0.number k payload) r.handed)
-  works s r id me st row k word x payload found is here one suits opens stands told written =
+  works s r id me st row k word x payload found is here one suits opens above busy yet told cells-then =
       let v = me.0 in let p = v.number in let f = v.facts in let c = r.hidden in
       let known = r.each_view id v here (omega arith) in
       let at = known.stands in
@@ -279,7 +366,6 @@ module _ {E S : Type 0} (object : Object E) (primitive : Primitive E S) (passes 
       let es = object.entries st p k payload in
       let fits : payload < 2 ^ 20 = subst (λ z. z < 2 ^ 20) (sym told)
       (told-fits row.gain (c.payloads k) f.has.payload (r.cells.fits k) known.payload_fits) in
-      let above = stands.above in
       let by : primitive.shows (happened_by object.gains c (row_of st) p k (Some found) f.has payload)
       (client_words s.words) (r.log ++ es) r.handed =
       client.steps c st p k (Some found) f.has payload (client_words s.words) r.log r.handed r.shown
@@ -296,13 +382,8 @@ module _ {E S : Type 0} (object : Object E) (primitive : Primitive E S) (passes 
       (facts_worked object.gains row k n payload f) = record {
         crew = crew-else s.words word x (omega arith);
         counters = counters-else c.queue d.queue s.words word x (omega arith) refl refl r.counters;
-        cells = set-cell r.segments c d cells s.words k word x r.cells stands
-            (state-else object.gains c p k row found f.has payload row_is sound opens)
-            (payload-else object.gains c p k row found f.has payload row_is sound opens) written
-            (subst (λ z. z < 2 ^ 20) (sym (payload-here object.gains c p k row found f.has payload row_is sound opens))
-            (left-fits row.brings payload (c.payloads k) fits (r.cells.fits k)))
-            (bare-here object.gains c p k row found f.has payload row_is sound opens r.cells.bare);
-        idle_words = idle-else s.words word x (λ j is. stands.busy j is) r.idle_words;
+        cells = cells-then;
+        idle_words = idle-else s.words word x busy r.idle_words;
         room = record {
           few_passes = r.room.few_passes;
           low_limit = r.room.low_limit;
@@ -329,7 +410,13 @@ module _ {E S : Type 0} (object : Object E) (primitive : Primitive E S) (passes 
         draws = ap (λ m. c.queue.resumes + m) (sym (draws-cell f.found k n));
         now = r.segments;
         later = later-same r.segments;
-        counted = r.counted;
+        settles = settled_then (settles_row row) r.settled k;
+        counts = λ q. counts-then (settles_row row) r.settled k (r.segments.counted q) q f.duties yet;
+        finals = works-finals c r.settled st row p k payload found f.has f (facts_worked object.gains row k n payload f)
+            is row_is sound opens suits others at
+            (worked-self object.gains c p k row found f.has payload row_is sound opens n f refl at safe) refl refl
+            r.finals
+            (settles_row row) refl;
         same_slots = λ y. refl;
         same_spares = refl;
       } in
@@ -352,10 +439,14 @@ module _ {E S : Type 0} (object : Object E) (primitive : Primitive E S) (passes 
   crosses all y all_is slots id me st row k word expected new is one suits x s r _ here small =
       dite (ℕ_discrete n expected)
       (λ e. subst T (sym (eq-eqb n expected e))
-      (let same = word_of-injective k k (state_at c.queue k) row.finds (c.payloads k) x.payload
-      (r.cells.fits k) x.payload_fits
-      (sym stands.shows ∙ (e ∙ x.expects)) in
-      let at_is : stood.cell.state ≡ row.finds = ap state_in (sym stood.there) ∙ same.1 in
+      (let lower : rank row.finds < rank x.state =
+      (subst (λ z. RowGoesOn row.finds z row.brings) x.makes row_is.goes_on).0 in
+      let most = rank-most x.state in
+      let there = stale-fails r.segments c (cell_count passes limit primitive.values) s.words r.settled
+      (duties_in (λ (z : View E S). z.facts.duties) s.views) v k word r.cells r.counted (r.each_segment id v here).seen
+      (λ j is. (r.finals j is).final) x.place row.finds x.payload x.payload_fits (omega arith) (e ∙ x.expects) in
+      let stands = there.3 in
+      let at_is : stood.cell.state ≡ row.finds = ap state_in (sym stood.there) ∙ there.1 in
       let opens : IsOpenRow c.queue (at_cell row) p k (Some stood.cell) =
       (record { does = at.doing ∙ ap Some x.works; finds = stood.there; at = at_is }, stood.works) in
       let writes : new ≡ word_of k
@@ -364,9 +455,13 @@ module _ {E S : Type 0} (object : Object E) (primitive : Primitive E S) (passes 
       x.writes ∙ (λ i. word_of k
       (sym (state-here object.gains c p k row stood.cell f.has pay row_is sound opens
       ∙ ap (λ (z : Option CoreState). state_made z stood.cell.state) x.makes) i)
-      ((ap (λ z. payload_left row.brings (payload_told row.gain z f.has.payload) z) (sym same.2)
+      ((ap (λ z. payload_left row.brings (payload_told row.gain z f.has.payload) z) (sym there.2)
       ∙ sym (payload-here object.gains c p k row stood.cell f.has pay row_is sound opens)) i)) in
-      let done = works s r id me st row k word new pay stood.cell is here one suits opens stands refl writes in
+      let fits : pay < 2 ^ 20 =
+      told-fits row.gain (c.payloads k) f.has.payload (r.cells.fits k) known.payload_fits in
+      let done = works s r id me st row k word new pay stood.cell is here one suits opens stands.above stands.busy
+      (λ _. there.0) refl (cells-worked s r p k word new pay row stood.cell f.has row_is sound opens fits stands writes)
+      in
       let es = object.entries st p k pay in (
         grown v (facts_worked object.gains row k n pay f) (r.log ++ es) r.handed,
         keeps,
@@ -406,7 +501,7 @@ module _ {E S : Type 0} (object : Object E) (primitive : Primitive E S) (passes 
         once = at.once;
         last = inl (refl, refl);
         behind = record { reached = at.behind.reached; passed = at.behind.passed };
-      }) known.payload_fits (keeps-all primitive.opens v facts refl (λ j o. o)) (draws-cell f.found k n) refl in (
+      }) known.payload_fits (keeps-all primitive.opens v facts refl (λ j o. o)) (draws-cell f.found k n) refl refl in (
         grown v facts (r.log ++ []) r.handed,
         keeps,
         tt,
@@ -463,10 +558,6 @@ module _ {E S : Type 0} (object : Object E) (primitive : Primitive E S) (passes 
       stood : WorksAt c (cell_count passes limit primitive.values) p k row.works_at
       stood = works-at c passes limit primitive.values p k row.works_at f r.room sound at x.works x.own row_is.at
 
-      stands : CellAt r.segments c s.words k word
-      stands = cell-at r.segments c (cell_count passes limit primitive.values) s.words none_settled no_duties v k word
-          r.cells r.counted (r.each_segment id v here).seen refl x.place
-
       g : Glimpse
       g = record { number = k; state = state_at c.queue k; payload = c.payloads k }
 
@@ -475,7 +566,8 @@ module _ {E S : Type 0} (object : Object E) (primitive : Primitive E S) (passes 
 
       cell : FoundCell n g
       cell = record {
-        word = stands.shows;
+        word = ⊎_elim inl (λ t. inr (t.0, t.2))
+            (seen-word s r id v k word row.works_at here row_is.at sound stood at x.works x.own x.place);
         number = let low = stood.below in let l = r.room.low_limit in let q = r.room.few_passes in let u =
             r.room.few_values in omega arith;
         fits = r.cells.fits k;

@@ -27,7 +27,7 @@ use Rattle.cqs_rule_laws.proofs.Cells.{same-or-not}
 pub number-split : (k : ℕ) → 32 * (k / 32) + k % 32 ≡ k
 number-split k = omega arith
 
-place-few : (k : ℕ) → k % 32 < 32
+pub place-few : (k : ℕ) → k % 32 < 32
 place-few k = omega arith
 
 -- the word of a cell has its number
@@ -142,6 +142,14 @@ module _ {E S : Type 0} (v : View E S) where
       let e = p.3 in
       let few = place-few k in
       omega arith
+
+  -- it is none of the counters', the client's or those between
+  pub place-behind : (k word : ℕ) → KnowsPlace v (place_at word k)
+      → (client_place 3 < word) × ((i : ℕ) → IsIdle i → i ≢ word)
+  place-behind k word place =
+      let p = place_word v (place_at word k) place in
+      let e = p.3 in
+      (omega arith, λ i idle same. let before = idle.before in omega arith)
 
   -- as long as no slot is used again, a number has its word for good
   pub place-flat : (at : Place) → IsInside v → at.index < v.cells

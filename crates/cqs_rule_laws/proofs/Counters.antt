@@ -22,7 +22,7 @@ use Rattle.cqs_core.specs.QueueSound.{IsSound}
 use Rattle.cqs_core.specs.QueueStages as stage
 use Rattle.cqs_core.specs.QueueStages.{Stage, doing_at}
 use Rattle.cqs_core.specs.QueueState.{fresh_cell}
-use Rattle.cqs_core.specs.QueueSteps.{QueueStep, draws, enters, reaches, begins, puts, row_of, StepRow, CounterRow, at_counter, at_cell, Counter, to_suspend, to_resume, Cost, no_cost, one_owed, one_element, after_count, IsOpenRow}
+use Rattle.cqs_core.specs.QueueSteps.{QueueStep, draws, enters, reaches, begins, row_of, StepRow, CounterRow, at_counter, at_cell, Counter, to_suspend, to_resume, Cost, no_cost, one_owed, one_element, after_count, IsOpenRow}
 use Rattle.cqs_core.proofs.QueueRows.{step-facts}
 use Rattle.cqs_core.proofs.StepFacts.{IsDraw, is_draws, is_enters, is_reaches, is_begins, is_puts, DrawOf}
 use Rattle.cqs_core.proofs.Places.{get-set_here, get-set_else, get-append_left}
@@ -37,13 +37,16 @@ use Rattle.cqs_rule_laws.specs.Kinds.{Carries, pays_owed}
 use Rattle.cqs_rule_laws.specs.Layout.{words_for, client_words}
 use Rattle.cqs_rule_laws.specs.Manner.{Suits}
 use Rattle.cqs_rule_laws.specs.Object.{Object, Primitive}
-use Rattle.cqs_rule_laws.specs.Ruled.{Ruled, IsWaitOf, Stands, cell_count}
+use Rattle.cqs_rule_laws.specs.Ruled.{Ruled, IsWaitOf, Stands, cell_count, number_at}
 use Rattle.cqs_rule_laws.specs.Saw.{IsLive}
 use Rattle.cqs_rule_laws.specs.Slots.{laid_in}
 use Rattle.cqs_rule_laws.specs.Views.{grown}
+use Rattle.cqs_rule_laws.specs.Manner.{IsSmart}
+use Rattle.cqs_rule_laws.proofs.Settled.{finals-on}
 use Rattle.cqs_rule_laws.proofs.CellPlaces.{behind-suspends, behind-resumes, suspends-inside, resumes-inside}
 use Rattle.cqs_rule_laws.proofs.Cells.{written_same, made_same, pushed-back, installed-drawn, since-on}
-use Rattle.cqs_rule_laws.proofs.Advance.{Turned, OthersStay}
+use Rattle.cqs_rule_laws.proofs.Advance.{Turned}
+use Rattle.cqs_rule_laws.proofs.Staying.{OthersStay}
 use Rattle.cqs_rule_laws.proofs.Lists.{fewer_draw}
 use Rattle.cqs_rule_laws.proofs.Others.{door-keeps}
 use Rattle.cqs_slots.proofs.Loads.{later-same}
@@ -389,7 +392,12 @@ module _ {E S : Type 0} (object : Object E) (primitive : Primitive E S) (passes 
         draws = ap (λ k. c.queue.resumes + k) (sym (draws-word f.found 16 n (λ e. omega arith)));
         now = r.segments;
         later = later-same r.segments;
-        counted = r.counted;
+        settles = r.settled;
+        counts = λ q. refl;
+        finals = finals-on (IsSmart primitive.manner.leaving) c d p r.settled f facts
+            (others-drawn object.gains c p n at cost found f.has payload refl next sound) stands
+            (drawn-self object.gains c p n at cost found f.has payload n f refl refl refl next sound stands)
+            (λ j high. drawn-state c p n found j refl) (λ j high h. h) (λ j e. absurd (cc)) (omega arith) r.finals;
         same_slots = λ y. refl;
         same_spares = refl;
       } in
@@ -506,7 +514,13 @@ module _ {E S : Type 0} (object : Object E) (primitive : Primitive E S) (passes 
         draws = let more = draws-one f.found n in omega arith;
         now = r.segments;
         later = later-same r.segments;
-        counted = r.counted;
+        settles = r.settled;
+        counts = λ q. refl;
+        finals = finals-on (IsSmart primitive.manner.leaving) c d p r.settled f facts
+            (others-reached object.gains c p n at cost found f.has payload) stands
+            (reached-self object.gains c p n at cost found f.has payload n f refl refl next stands)
+            (λ j high. reached-state c p n found j) (λ j high h. h)
+            (λ j e. inr (let q : n ≡ j = ap number_at e in omega arith)) (omega arith) r.finals;
         same_slots = λ y. refl;
         same_spares = refl;
       } in

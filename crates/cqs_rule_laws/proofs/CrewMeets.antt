@@ -15,10 +15,11 @@ use Rattle.cqs_rule_laws.specs.declared.view.Facts.{Facts}
 use Rattle.cqs_rule_laws.specs.Segments.{KnowsSegments}
 use Rattle.cqs_rule_laws.proofs.Segments.{knows-nothing}
 use Rattle.cqs_rule_laws.proofs.Spares.{spares-kept, spares-joined}
+use Rattle.cqs_rule_laws.proofs.Duties.{counted-kept, counted-joined}
 use Rattle.cqs_rule_laws.specs.Hidden.{hands_over}
 use Rattle.cqs_rule_laws.specs.Layout.{client_words, slots_for}
 use Rattle.cqs_rule_laws.specs.Lists.{Has, IsPrefix}
-use Rattle.cqs_rule_laws.specs.Views.{all_own, weight, Tip, first_facts, single, joined, spent, has_both, has_none}
+use Rattle.cqs_rule_laws.specs.Views.{all_own, weight, IsSpent, Tip, first_facts, single, joined, spent, has_both, has_none}
 use Rattle.cqs_rule_laws.specs.Ruled.{Ruled, IsKept, Knows, Stands, cell_count}
 use Rattle.cqs_rule_laws.specs.Client.{IsClient}
 use Rattle.cqs_rule_laws.specs.Object.{Object, Primitive}
@@ -90,7 +91,11 @@ module _ {E S : Type 0} (object : Object E) (primitive : Primitive E S) (passes 
           fits = r.cells.fits;
           bare = r.cells.bare;
         };
-        counted = r.counted;
+        settled = r.settled;
+        finals = r.finals;
+        counted = counted-joined (λ (x : View E S). x.facts.duties) r.segments r.settled s.views id other v u w spent
+            here
+            at-other (λ e. apart (sym e)) refl refl r.counted;
         spares = spares-joined (slots_for (cell_count passes limit primitive.values)) r.segments s.views id other v u w
             spent here at-other (λ e. apart (sym e)) refl refl r.spares;
         idle_words = r.idle_words;
@@ -136,7 +141,7 @@ module _ {E S : Type 0} (object : Object E) (primitive : Primitive E S) (passes 
                   apart (r.apart other id u v n at-other here (has_left n u.own u.others g)
                   (has_left n v.own v.others h));
               own = k.own;
-              stands = stands-spares d to (record v.facts { has = got }) w.facts.spare_slots
+              stands = stands-spares d to (record v.facts { has = got }) w.facts.spare_slots w.facts.duties
                   (handed-to r.hidden from to gave got v.facts differ k.stands);
               resting = λ n h away. rests-on r.hidden d n
                   (λ f stands. handed-else r.hidden from to gave got n f
@@ -169,7 +174,8 @@ module _ {E S : Type 0} (object : Object E) (primitive : Primitive E S) (passes 
             (r.each_view i y at live))
             j x e b);
         apart = apart-joined s.views id other v u w r.apart here at-other apart refl refl;
-        spent = set_all (λ j x. x.weight ≡ 0 → (n : ℕ) → Has n (all_own x) → ⊥) mid other spent (λ z n h. h)
+        spent = set_all (λ j x. x.weight ≡ 0 → IsSpent x) mid other spent
+            (λ z. record { numberless = λ n h. h; dutiless = refl })
             (λ j x b e. spent-set object primitive passes limit s.views id w (omega arith) r.spent j x e);
         unnamed = r.unnamed;
         unused = λ n above low. handed-else r.hidden from to gave got n (first_facts 0)
@@ -298,7 +304,10 @@ module _ {E S : Type 0} (object : Object E) (primitive : Primitive E S) (passes 
           };
           counters = counters-stay r.hidden.queue s.words x r.counters;
           cells = cells-stay r.segments r.hidden (cell_count passes limit primitive.values) s.words x r.cells;
-          counted = r.counted;
+          settled = r.settled;
+          finals = r.finals;
+          counted = counted-kept (λ (x : View E S). x.facts.duties) r.segments r.settled s.views id v w here refl
+              r.counted;
           spares = spares-kept (slots_for (cell_count passes limit primitive.values)) r.segments r.segments s.views id v
               w here refl (λ y. refl) r.spares;
           idle_words = idle-stay s.words x r.idle_words;

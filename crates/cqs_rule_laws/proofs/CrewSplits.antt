@@ -15,6 +15,7 @@ use Rattle.cqs_rule_laws.specs.declared.view.View.{View}
 use Rattle.cqs_rule_laws.specs.declared.view.Facts.{Facts}
 use Rattle.cqs_rule_laws.specs.Segments.{KnowsSegments}
 use Rattle.cqs_rule_laws.proofs.Spares.{spares-kept, spares-more}
+use Rattle.cqs_rule_laws.proofs.Duties.{counted-kept, counted-more}
 use Rattle.cqs_rule_laws.specs.Hidden.{Hidden, hands_over}
 use Rattle.cqs_words.specs.Crew.{crew_word}
 use Rattle.cqs_rule_laws.specs.Layout.{client_words, slots_for}
@@ -158,7 +159,10 @@ module _ {E S : Type 0} (object : Object E) (primitive : Primitive E S) (passes 
                 fits = shows_cells.fits;
                 bare = shows_cells.bare;
               };
-              counted = r.counted;
+              settled = r.settled;
+              finals = r.finals;
+              counted = counted-kept (λ (x : View E S). x.facts.duties) r.segments r.settled s.views id v w
+                  here refl r.counted;
               spares = spares-kept (slots_for (cell_count passes limit primitive.values)) r.segments r.segments s.views
                   id v w here refl (λ y. refl) r.spares;
               idle_words = idle-stay s.words x r.idle_words;
@@ -326,7 +330,7 @@ module _ {E S : Type 0} (object : Object E) (primitive : Primitive E S) (passes 
           unmade : (i : ℕ) (u : View E S) → get_elem? s.views i ≡ some u → (j : ℕ) → Has j (all_own u) → r.made ≤ j → ⊥
           unmade i u at j g above = ⊎_elim
               (λ (live : 0 < u.weight). let b = (r.each_view i u at live).below j g in omega arith)
-              (λ (none : u.weight ≤ 0). r.spent i u at (omega arith) j g)
+              (λ (none : u.weight ≤ 0). (r.spent i u at (omega arith)).numberless j g)
               (cases_lt 0 u.weight)
 
       miss : n ≢ first → Done n
@@ -400,7 +404,11 @@ module _ {E S : Type 0} (object : Object E) (primitive : Primitive E S) (passes 
         };
         counters = r.counters;
         cells = r.cells;
-        counted = r.counted;
+        settled = r.settled;
+        finals = r.finals;
+        counted = counted-more (λ (x : View E S). x.facts.duties) r.segments r.settled views right refl
+            (counted-kept (λ (x : View E S). x.facts.duties) r.segments r.settled s.views id v left here refl
+            r.counted);
         spares = spares-more (slots_for (cell_count passes limit primitive.values)) r.segments views right refl
             (spares-kept (slots_for (cell_count passes limit primitive.values)) r.segments r.segments s.views id v left
             here refl (λ y. refl) r.spares);
@@ -462,7 +470,7 @@ module _ {E S : Type 0} (object : Object E) (primitive : Primitive E S) (passes 
               light = λ z. refl;
               parted = λ n h g. g;
               own = second.own;
-              stands = stands-spares r.hidden v.second_number v.second [] second.stands;
+              stands = stands-spares r.hidden v.second_number v.second [] [] second.stands;
               resting = second.resting;
               second = λ z. absurd (omega arith);
               crew = k.crew;

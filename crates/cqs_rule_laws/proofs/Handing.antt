@@ -18,6 +18,7 @@ use Rattle.cqs_rule_laws.specs.Object.{Object, Primitive}
 use Rattle.cqs_rule_laws.specs.Ruled.{Ruled, Knows, IsKept, cell_count}
 use Rattle.cqs_rule_laws.specs.Segments.{KnowsSegments}
 use Rattle.cqs_rule_laws.proofs.Spares.{spares-kept}
+use Rattle.cqs_rule_laws.proofs.Duties.{counted-kept}
 use Rattle.cqs_rule_laws.specs.Slots.{laid_in, taken_off, or_else, handed_in, MayOpen, Shelf}
 use Rattle.cqs_rule_laws.specs.Views.{all_own, weight, Tip}
 use Rattle.cqs_rule_laws.proofs.Advance.{spent-set, stands-out, still-apart}
@@ -195,7 +196,9 @@ module _ {E S : Type 0} (object : Object E) (primitive : Primitive E S) (passes 
         fits = r.cells.fits;
         bare = r.cells.bare;
       };
-      counted = r.counted;
+      settled = r.settled;
+      finals = r.finals;
+      counted = counted-kept (λ (x : View E S). x.facts.duties) r.segments r.settled s.views id v w here refl r.counted;
       spares = spares-kept (slots_for (cell_count passes limit primitive.values)) r.segments r.segments s.views id v w
           here refl (λ y. refl) r.spares;
       idle_words = record { none = r.idle_words.none };

@@ -6,9 +6,14 @@ pub mod Segments
 pub mod Spares
 pub mod Shelves
 pub mod Drawing
+pub mod Staying
+pub mod Duties
+pub mod Settled
 pub mod Advance
 pub mod Others
 pub mod CellsStand
+pub mod WordOf
+pub mod Stale
 pub mod Worked
 pub mod Tells
 pub mod Handing
@@ -36,6 +41,8 @@ pub mod Rules
 pub mod Courses
 pub mod Causes
 pub mod SegmentSteps
+pub mod Finals
+pub mod Near
 pub mod StandStill
 pub mod Opens
 pub mod Lines

@@ -1,6 +1,6 @@
 -- A step on a word of the client, once for every event: what the client owes for it keeps the rule, and tells the pass
 -- the event.
-use Rattle.std.proofs.Common.{◌≡◌, ℕ, ◌+◌, ◌<◌, ◌^◌, Bool, true, List, ◌++◌, length, ⊎_elim, sym, refl, ap, ◌∙◌, subst, arith, Option, Some, None, ◌-◌, ◌≤◌, false, if◌then◌else◌}
+use Rattle.std.proofs.Common.{◌≡◌, ℕ, ◌+◌, ◌<◌, ◌^◌, Bool, true, List, ◌++◌, length, ⊎_elim, inl, sym, refl, ap, ◌∙◌, subst, arith, Option, Some, None, ◌≤◌, false, if◌then◌else◌}
 use Rattle.std.specs.Prelude.{slice_index, slice_set}
 use Rattle.std.proofs.lemmas.List.{length-set}
 use Rattle.std.proofs.lemmas.Option.{same_Some}
@@ -22,6 +22,8 @@ use Rattle.cqs_rule_laws.specs.Object.{Object, Primitive}
 use Rattle.cqs_rule_laws.specs.Ruled.{Ruled, Stands, IsSince, cell_count}
 use Rattle.cqs_rule_laws.specs.Saw.{Saw, IsLive, WasFound}
 use Rattle.cqs_rule_laws.specs.Views.{grown}
+use Rattle.cqs_rule_laws.specs.Manner.{IsSmart}
+use Rattle.cqs_rule_laws.proofs.Settled.{finals-on}
 use Rattle.cqs_rule_laws.proofs.CellPlaces.{behind-client, client-inside}
 use Rattle.cqs_rule_laws.proofs.Advance.{Turned}
 use Rattle.cqs_rule_laws.proofs.Drawing.{draws-word}
@@ -166,7 +168,16 @@ module _ {C E S : Type 0} (object : Object E) (primitive : C → Primitive E S) 
         draws = ap (λ k. c.queue.resumes + k) (sym (draws-word facts.found word n (λ e. omega arith)));
         now = r.segments;
         later = later-same r.segments;
-        counted = r.counted;
+        settles = r.settled;
+        counts = λ q. refl;
+        finals = finals-on (IsSmart (primitive x).manner.leaving) c d p r.settled facts after
+            (others-moved c p now (has_then event m)) at
+            (stands-moved c p facts after refl refl refl
+            (record {
+              reached = kept-low (is_owing facts.doing) facts.reached c.queue.resumes at.behind.reached;
+              passed = at.behind.passed;
+            }) at)
+            (λ j high. refl) (λ j high h. h) (λ j e. inl (law.ticket n j e)) (omega arith) r.finals;
         same_slots = λ y. refl;
         same_spares = refl;
       } in

@@ -1,6 +1,6 @@
 -- What one pass has seen reaches another: a note is cut off the view of the one, and the other takes it in. Neither is
 -- a step on a word, and nothing changes but that the other has the note.
-use Rattle.std.proofs.Common.{◌≡◌, ◌≢◌, ℕ, ◌<◌, List, [], ◌∷◌, ◌++◌, length, set, sym, refl, ap, ◌∙◌, subst, ⊎_elim, inl, inr, arith, Option, ◌⊎◌, append_assoc}
+use Rattle.std.proofs.Common.{◌≡◌, ◌≢◌, ℕ, ◌<◌, List, [], ◌∷◌, ◌++◌, length, set, sym, refl, ap, ◌∙◌, subst, ⊎_elim, inl, arith, Option, ◌⊎◌, append_assoc}
 use mathlib.Core.Option.{some}
 use mathlib.Core.Logic.{dite}
 use native.Mathlib.Decide.{ℕ_discrete}
@@ -12,10 +12,11 @@ use Rattle.cqs_rule_laws.specs.declared.view.Facts.{Facts}
 use Rattle.cqs_rule_laws.specs.Segments.{KnowsSegments}
 use Rattle.cqs_rule_laws.proofs.Segments.{knows-nothing}
 use Rattle.cqs_rule_laws.proofs.Spares.{spares-set, spares-kept, spares-more}
+use Rattle.cqs_rule_laws.proofs.Duties.{counted-kept, counted-more}
 use Rattle.cqs_rule_laws.specs.Layout.{slots_for}
 use Rattle.cqs_rule_laws.specs.Lists.{Has, IsPrefix}
-use Rattle.cqs_rule_laws.specs.Views.{all_own, weight, Tip, Apart, SpentHasNone, spent, note_of, with_note, as_before}
-use Rattle.cqs_rule_laws.specs.Ruled.{Ruled, IsKept, Knows, cell_count}
+use Rattle.cqs_rule_laws.specs.Views.{all_own, weight, Tip, IsSpent, spent, note_of, with_note, as_before}
+use Rattle.cqs_rule_laws.specs.Ruled.{Ruled, Knows, cell_count}
 use Rattle.cqs_rule_laws.specs.Object.{Object, Primitive}
 use Rattle.cqs_rule_laws.specs.Saw.{Saw}
 use Rattle.cqs_rule_laws.proofs.Advance.{spent-set}
@@ -74,7 +75,9 @@ module _ {E S : Type 0} (object : Object E) (primitive : Primitive E S) (passes 
         };
         counters = r.counters;
         cells = r.cells;
-        counted = r.counted;
+        settled = r.settled;
+        finals = r.finals;
+        counted = counted-more (λ (x : View E S). x.facts.duties) r.segments r.settled s.views note refl r.counted;
         spares = spares-more (slots_for (cell_count passes limit primitive.values)) r.segments s.views note refl
             r.spares;
         idle_words = r.idle_words;
@@ -110,8 +113,8 @@ module _ {E S : Type 0} (object : Object E) (primitive : Primitive E S) (passes 
           sees = r.tip.sees;
         };
         shelf = shelf-end primitive.opens r.handed r.live s.homes s.views note refl refl r.shelf;
-        spent = λ j u e weightless n h. old-or j u e (λ q. r.spent j u q weightless n h)
-            (λ is. subst (λ (z : View E S). Has n (all_own z)) (sym is) h);
+        spent = λ j u e weightless. old-or j u e (λ q. r.spent j u q weightless)
+            (λ is. subst IsSpent is (record { numberless = λ n h. h; dutiless = refl }));
       }
 
   -- a live view has taken in what a note says
@@ -133,7 +136,9 @@ module _ {E S : Type 0} (object : Object E) (primitive : Primitive E S) (passes 
     };
     counters = r.counters;
     cells = r.cells;
-    counted = r.counted;
+    settled = r.settled;
+    finals = r.finals;
+    counted = counted-kept (λ (x : View E S). x.facts.duties) r.segments r.settled s.views id v w here refl r.counted;
     spares = spares-kept (slots_for (cell_count passes limit primitive.values)) r.segments r.segments s.views id v w
         here refl (λ y. refl) r.spares;
     idle_words = r.idle_words;
@@ -233,7 +238,10 @@ module _ {E S : Type 0} (object : Object E) (primitive : Primitive E S) (passes 
     };
     counters = r.counters;
     cells = r.cells;
-    counted = r.counted;
+    settled = r.settled;
+    finals = r.finals;
+    counted = counted-kept (λ (x : View E S). x.facts.duties) r.segments r.settled s.views id u spent here
+        (sym (r.spent id u here weightless).dutiless) r.counted;
     spares = spares-set (slots_for (cell_count passes limit primitive.values)) r.segments r.segments s.views id u spent
         here tt tt (λ y h. absurd h) (λ y i a d is none. refl) r.spares;
     idle_words = r.idle_words;
@@ -270,7 +278,8 @@ module _ {E S : Type 0} (object : Object E) (primitive : Primitive E S) (passes 
       laid = λ j x at live. r.shelf.laid j x (was j x at live) live;
       last = λ k bare. r.shelf.last k (λ j x at live. bare j x (on j x at live) live);
     };
-    spent = set_all (λ j x. x.weight ≡ 0 → (n : ℕ) → Has n (all_own x) → ⊥) s.views id spent (λ z n h. h)
+    spent = set_all (λ j x. x.weight ≡ 0 → IsSpent x) s.views id spent
+        (λ z. record { numberless = λ n h. h; dutiless = refl })
         (λ j x apart at. r.spent j x at);
   }
     where

@@ -22,8 +22,9 @@ use Rattle.cqs_words.specs.Cell.{index_in}
 use Rattle.cqs_words.specs.Segment.{segment_word}
 use Rattle.cqs_slots.specs.Layout.{tail_place}
 use Rattle.cqs_slots.specs.Opened.{first_segments, OpensWith}
+use Rattle.cqs_slots.proofs.Counted.{none-in}
 use Rattle.cqs_slots.proofs.Loads.{knows-all}
-use Rattle.cqs_slots.proofs.Opens.{opens-shows, opens-sound, opens-counted, home-there}
+use Rattle.cqs_slots.proofs.Opens.{opens-shows, opens-sound, home-there}
 use Rattle.cqs_rule_laws.specs.Layout.{client_words, slots_for, words_for, IsIdle}
 use Rattle.cqs_rule_laws.specs.Views.{first_view, all_own, first_facts, first_has}
 use Rattle.cqs_core.specs.declared.cells.CoreCell.{CoreCell}
@@ -154,7 +155,9 @@ module _ {E S : Type 0} (object : Object E) (primitive : Primitive E S) (passes 
       fits = λ k. payload-fits k (cases_lt k values);
       bare = λ k is. payload-bare k is (cases_lt k values);
     };
-    counted = opens-counted (slots_for cells_of);
+    settled = λ k. false;
+    finals = λ k is. absurd (cc);
+    counted = record { counts = λ s. none-in s };
     spares = record {
       are = λ j v e. subst (λ (x : View E S). AreSpare (slots_for cells_of) (first_segments (slots_for cells_of))
           x.facts.spare_slots) (only-one first v j e).1 tt;

@@ -7,7 +7,7 @@ use Rattle.cqs_rule_laws.specs.declared.view.Has.{Has}
 use Rattle.cqs_rule_laws.specs.Hidden.{Hidden, stands_at, now_may_draw}
 use Rattle.cqs_rule_laws.specs.Ruled.{IsWaitOf, DoorMayDraw}
 use Rattle.cqs_rule_laws.proofs.Cells.{same-or-not}
-use Rattle.cqs_rule_laws.proofs.Advance.{OthersStay}
+use Rattle.cqs_rule_laws.proofs.Staying.{OthersStay}
 
 -- nothing hidden changes
 pub others-same : (c : Hidden) (p : ℕ) → OthersStay c c p

@@ -46,6 +46,7 @@ module _ {E S : Type 0} (object : Object E) where
     seen = c.seen;
     mine = c.mine;
     before = w.seen;
+    since = (c.more, c.seen);
     ends = sym (append-nil w.seen);
     same = c.same;
     handed = c.handed;

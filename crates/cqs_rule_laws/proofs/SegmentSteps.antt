@@ -1,9 +1,9 @@
 -- The steps on the words of segments: what each makes of the segments keeps the rule.
-use Rattle.std.proofs.Common.{◌≡◌, ◌≢◌, ◌⊎◌, ℕ, ◌+◌, ◌*◌, ◌<◌, ◌≤◌, List, [], ◌∷◌, ◌++◌, length, length-append, set, sym, refl, ap, ◌∙◌, subst, ⊎_elim, inl, inr, arith, eqb, eq-eqb, ne_eqb, Option}
+use Rattle.std.proofs.Common.{◌≡◌, ◌≢◌, ◌⊎◌, ℕ, ◌+◌, ◌*◌, ◌%◌, ◌^◌, ◌<◌, ◌≤◌, List, [], ◌∷◌, ◌++◌, length, length-append, set, sym, refl, ap, ◌∙◌, subst, ⊎_elim, inl, inr, arith, eqb, eq-eqb, ne_eqb, Option}
 use Rattle.std.specs.Prelude.{slice_index, slice_set}
 use Rattle.std.proofs.lemmas.List.{append-nil}
 use prog.Atomic.{either}
-use mathlib.Core.Option.{some, none}
+use mathlib.Core.Option.{some}
 use mathlib.Core.Logic.{dite}
 use native.Mathlib.Decide.{ℕ_discrete}
 use lib.ListN.{get_elem?}
@@ -17,12 +17,14 @@ use Rattle.cqs_slots.specs.Slots.{Segments, free, spare, fresh, live, IsHome, Is
 use Rattle.cqs_slots.specs.Shown.{Shows, AreSound, AreCells, Becomes}
 use Rattle.cqs_slots.specs.Told.{Knows, all_seen, TailFound}
 use Rattle.cqs_core.proofs.Places.{get-push_at}
-use Rattle.cqs_slots.proofs.Lists.{changed_here, home-prefix, one-home}
+use Rattle.cqs_slots.proofs.Lists.{changed_here, changed_at, changed_else, home-prefix, has_prefix, one-home}
 use Rattle.cqs_slots.proofs.Loads as loads
-use Rattle.cqs_slots.specs.Steps.{with_slot, with_tail}
+use Rattle.cqs_slots.specs.Steps.{with_slot, with_tail, with_counted}
 use Rattle.cqs_slots.proofs.Claims.{claimed, claimed-is, given-back}
 use Rattle.cqs_slots.proofs.Resets.{spare-low, begun, cell-reset, count-reset}
-use Rattle.cqs_slots.proofs.Marks.{is-young, lit}
+use Rattle.cqs_slots.proofs.Marks.{is-young, lit, retired}
+use Rattle.cqs_slots.proofs.Counts.{few-counted, count-found, counted-shows, counted-sound, counted-later, fuller-has}
+use Rattle.cqs_slots.proofs.Turns.{is-live}
 use Rattle.cqs_slots.proofs.Extends.{extended, tail-at}
 use Rattle.cqs_rule_laws.specs.declared.view.Spare.{Spare}
 use Rattle.cqs_rule_laws.specs.declared.view.View.{View}
@@ -33,18 +35,23 @@ use Rattle.cqs_rule_laws.specs.Object.{Object, Primitive}
 use Rattle.cqs_rule_laws.specs.Ruled.{Ruled, Knows as KnowsView, Stands, cell_count, word_at}
 use Rattle.cqs_rule_laws.specs.Saw.{Saw}
 use Rattle.cqs_rule_laws.specs.Segments.{KnowsSegments}
-use Rattle.cqs_rule_laws.specs.SegmentSteps.{facts_spared, CountLoaded, claimed_slot, reset_slot, Went, TailLoaded, HeadLoaded, Claimed, Began, Reset, Lit, Extended}
+use Rattle.cqs_rule_laws.specs.SegmentSteps.{facts_left, CellCounted, CountLoaded, Retired, claimed_slot, reset_slot, Went, TailLoaded, HeadLoaded, Claimed, Began, Reset, Lit, Extended}
 use Rattle.cqs_rule_laws.specs.Spares.{slots_of, IsSpare, AreSpare, SparesHold}
 use Rattle.cqs_rule_laws.specs.Views.{weight, Tip}
 use Rattle.cqs_rule_laws.proofs.Advance.{still-apart, spent-set, still-kept}
-use Rattle.cqs_rule_laws.proofs.Lists.{set_there, one_there, set_all, total_set, has_append, has_left, has_right}
+use Rattle.cqs_rule_laws.specs.Settling.{times, duties_in}
+use Rattle.cqs_rule_laws.proofs.Duties.{counted-set, times-append, times-one, times-none}
+use Rattle.cqs_rule_laws.proofs.Lists.{set_there, one_there, set_all, total_set, one_of, has_append, has_left, has_right}
 use Rattle.cqs_rule_laws.proofs.Shelves.{keeps-all, shelf-set}
-use Rattle.cqs_rule_laws.proofs.Spares.{slots-append, are-append, are-else, are-last, is-spare, spares-set, distinct-append, distinct-last, distinct-left}
+use Rattle.cqs_rule_laws.proofs.Spares.{slots-append, are-append, are-else, are-last, is-spare, spares-set, spares-kept, distinct-append, distinct-last, distinct-left}
 use Rattle.cqs_rule_laws.proofs.Words.{crew-else, counters-else, idle-else, client-above}
 
 -- the view of a pass that made such a step: it knows all segments that are made
+abbrev pub left : {E S : Type 0} → View E S → Segments → List Spare → List (ℕ × ℕ) → List ℕ → View E S
+left v u spares heads duties = record v { facts = facts_left spares heads duties v.facts; segments = all_seen u }
+
 abbrev pub went : {E S : Type 0} → View E S → Segments → List Spare → List (ℕ × ℕ) → View E S
-went v u spares heads = record v { facts = facts_spared spares heads v.facts; segments = all_seen u }
+went v u spares heads = left v u spares heads v.facts.duties
 
 module _ {E S : Type 0} (object : Object E) (primitive : Primitive E S) (passes limit : ℕ) where
   abbrev pub R : State (Option S) (View E S) → Type 0
@@ -55,20 +62,21 @@ module _ {E S : Type 0} (object : Object E) (primitive : Primitive E S) (passes 
 
   -- what such a step has to show: the word i becomes z, and the segments u
   pub record Resegments (s : State (Option S) (View E S)) (r : R s) (id i z : ℕ) (v : View E S) (u : Segments)
-      (spares : List Spare) (heads : List (ℕ × ℕ)) : Type 0 where
+      (spares : List Spare) (heads : List (ℕ × ℕ)) (duties : List ℕ) : Type 0 where
     pub behind : 112 ≤ i
     pub shows : Shows slots u (word_at r.hidden) (slice_set s.words i z)
     pub sound : AreSound slots u
     pub later : IsLater r.segments u
     pub made : AreCells (word_at r.hidden) u.tail
-    pub counts : (q : ℕ) → u.counted q ≡ r.segments.counted q
-    pub hold : SparesHold slots u (set s.views id (went v u spares heads))
+    pub counts : (q : ℕ) → times q v.facts.duties + r.segments.counted q ≡ times q duties + u.counted q
+    pub hold : SparesHold slots u (set s.views id (left v u spares heads duties))
 
   -- what it tells
   pub went-saw : (s : State (Option S) (View E S)) (r : R s) (id : ℕ) (v : View E S) (u : Segments)
-      (spares : List Spare) (heads : List (ℕ × ℕ)) → get_elem? s.views id ≡ some v → IsLater r.segments u
-      → Saw object v (facts_spared spares heads v.facts) [] (went v u spares heads)
-  went-saw s r id v u spares heads here later = record {
+      (spares : List Spare)
+      (heads : List (ℕ × ℕ)) (duties : List ℕ) → get_elem? s.views id ≡ some v → IsLater r.segments u
+      → Saw object v (facts_left spares heads duties v.facts) [] (left v u spares heads duties)
+  went-saw s r id v u spares heads duties here later = record {
     between = [];
     seen = sym (append-nil (v.seen ++ []) ∙ append-nil v.seen);
     silent = λ n h. refl;
@@ -94,14 +102,14 @@ module _ {E S : Type 0} (object : Object E) (primitive : Primitive E S) (passes 
 
   -- it keeps the rule
   pub resegment : (s : State (Option S) (View E S)) (r : R s) (id i z : ℕ) (cs : List (ℕ × Option S)) (v : View E S)
-      (u : Segments) (spares : List Spare) (heads : List (ℕ × ℕ))
-      → get_elem? s.views id ≡ some v → v.weight ≡ 1 → Resegments s r id i z v u spares heads
-      → R (stepped s i z id cs (went v u spares heads) keeps)
-  resegment s r id i z cs v u spares heads here one t =
+      (u : Segments) (spares : List Spare) (heads : List (ℕ × ℕ)) (duties : List ℕ)
+      → get_elem? s.views id ≡ some v → v.weight ≡ 1 → Resegments s r id i z v u spares heads duties
+      → R (stepped s i z id cs (left v u spares heads duties) keeps)
+  resegment s r id i z cs v u spares heads duties here one t =
       let behind = t.behind in
       let k = r.each_view id v here (omega arith) in
       let at = k.stands in
-      let stands : Stands r.hidden v.number (facts_spared spares heads v.facts) = record {
+      let stands : Stands r.hidden v.number (facts_left spares heads duties v.facts) = record {
         doing = at.doing;
         has = at.has;
         may_draw = at.may_draw;
@@ -133,7 +141,10 @@ module _ {E S : Type 0} (object : Object E) (primitive : Primitive E S) (passes 
           fits = r.cells.fits;
           bare = r.cells.bare;
         };
-        counted = record { counts = λ q. r.counted.counts q ∙ (let e = t.counts q in omega arith) };
+        settled = r.settled;
+        finals = r.finals;
+        counted = counted-set (λ (x : View E S). x.facts.duties) r.segments u r.settled r.settled s.views id v w here
+            (λ q. let e = t.counts q in omega arith) r.counted;
         spares = t.hold;
         idle_words = idle-else s.words i z (λ j is e. let before = is.before in omega arith) r.idle_words;
         room = r.room;
@@ -190,7 +201,7 @@ module _ {E S : Type 0} (object : Object E) (primitive : Primitive E S) (passes 
       }
     where
       w : View E S
-      w = went v u spares heads
+      w = left v u spares heads duties
 
       P : ℕ → View E S → Type 0
       P j x = 0 < x.weight → KnowsView object r.hidden r.log r.handed r.made r.live passes limit
@@ -228,18 +239,18 @@ module _ {E S : Type 0} (object : Object E) (primitive : Primitive E S) (passes 
       → R (stepped s i z id me.1 (went me.0 u spares heads) keeps)
       × Went object spares heads me.0 (went me.0 u spares heads)
   segment-turn s r id i z x me u spares heads here one behind b made counts mine distinct claims own = (
-    resegment s r id i z me.1 me.0 u spares heads here one (record {
+    resegment s r id i z me.1 me.0 u spares heads me.0.facts.duties here one (record {
       behind = behind;
       shows = b.shows;
       sound = b.sound;
       later = b.later;
       made = made;
-      counts = counts;
+      counts = λ q. let e = counts q in omega arith;
       hold = spares-set slots r.segments u s.views id me.0 (went me.0 u spares heads) here mine distinct claims
           (λ y j a d is none. b.others y (λ (e : y ≡ x). none (subst (λ m. Has m (slots_of me.0.facts.spare_slots))
           (sym e) (own j a d (ap r.segments.slots (sym e) ∙ is))))) r.spares;
     }),
-    went-saw s r id me.0 u spares heads here b.later,
+    went-saw s r id me.0 u spares heads me.0.facts.duties here b.later,
   )
 
   -- a step that leaves all words
@@ -249,18 +260,20 @@ module _ {E S : Type 0} (object : Object E) (primitive : Primitive E S) (passes 
       × Went object me.0.facts.spare_slots heads me.0 (went me.0 r.segments me.0.facts.spare_slots heads)
   segment-look s r id i me heads here one behind =
       let same : slice_set s.words i (slice_index s.words i) ≡ s.words = set-get_or s.words i 0 in (
-        resegment s r id i (slice_index s.words i) me.1 me.0 r.segments me.0.facts.spare_slots heads here one (record {
-          behind = behind;
-          shows = subst (Shows slots r.segments (word_at r.hidden)) (sym same) r.cells.shows;
-          sound = r.cells.sound;
-          later = loads.later-same r.segments;
-          made = r.cells.made;
-          counts = λ q. refl;
-          hold = spares-set slots r.segments r.segments s.views id me.0
-              (went me.0 r.segments me.0.facts.spare_slots heads) here (r.spares.are id me.0 here)
-              (r.spares.once id me.0 here) (λ y h. inl h) (λ y j a d is none. refl) r.spares;
-        }),
-        went-saw s r id me.0 r.segments me.0.facts.spare_slots heads here (loads.later-same r.segments),
+        resegment s r id i (slice_index s.words i) me.1 me.0 r.segments me.0.facts.spare_slots heads me.0.facts.duties
+            here one (record {
+              behind = behind;
+              shows = subst (Shows slots r.segments (word_at r.hidden)) (sym same) r.cells.shows;
+              sound = r.cells.sound;
+              later = loads.later-same r.segments;
+              made = r.cells.made;
+              counts = λ q. refl;
+              hold = spares-set slots r.segments r.segments s.views id me.0
+                  (went me.0 r.segments me.0.facts.spare_slots heads) here (r.spares.are id me.0 here)
+                  (r.spares.once id me.0 here) (λ y h. inl h) (λ y j a d is none. refl) r.spares;
+            }),
+        went-saw s r id me.0 r.segments me.0.facts.spare_slots heads me.0.facts.duties here
+            (loads.later-same r.segments),
       )
 
   -- what an exchange comes to
@@ -725,3 +738,113 @@ module _ {E S : Type 0} (object : Object E) (primitive : Primitive E S) (passes 
           refl,
         ),
       )
+
+  -- a cell that the pass settled is counted
+  pub counts : (many id : ℕ) (me : Me (Option S) (View E S)) (before : List ℕ) (x q : ℕ) → me.0.weight ≡ 1
+      → me.0.facts.duties ≡ before ++ q ∷ [] → IsHome me.0.segments.homes q x
+      → Allows R many id me (count_place x) (λ n. (n + 1) % 2 ^ 64)
+      (λ n me'. CellCounted object before q me.0 n me'.0 × (me'.1 ≡ me.1))
+  counts many id me before x q one is home s r homes here small =
+      let v = me.0 in
+      let t = r.segments in
+      let c = word_at r.hidden in
+      let n = slice_index s.words (count_place x) in
+      let known = (r.each_segment id v here).seen in
+      let at : IsHome t.homes q x = home-prefix v.segments.homes t.homes q x known.homes home in
+      let mine : times q v.facts.duties ≡ times q before + 1 =
+      ap (times q) is ∙ (times-append q before (q ∷ []) ∙ ap (λ z. times q before + z) (times-one q q refl)) in
+      let some = one_of (λ (y : View E S). times q y.facts.duties) s.views id v here in
+      let few : t.counted q ≤ 31 =
+      few-counted t r.settled (duties_in (λ (y : View E S). y.facts.duties) s.views) q r.counted (omega arith) in
+      let found : n ≡ t.counted q = count-found slots t c s.words r.cells.shows r.cells.sound q x at few in
+      let u = with_counted t q in
+      let exact : (n + 1) % 2 ^ 64 ≡ t.counted q + 1 = omega arith in
+      let later = counted-later slots t c s.words r.cells.shows r.cells.sound q x at few in
+      let w : View E S = left v u v.facts.spare_slots [] before in (
+        w,
+        keeps,
+        tt,
+        subst (λ z. R (stepped s (count_place x) z id me.1 w keeps)) (sym exact)
+            (resegment s r id (count_place x) (t.counted q + 1) me.1 v u v.facts.spare_slots [] before here one
+            (record {
+              behind = omega arith;
+              shows = counted-shows slots t c s.words r.cells.shows r.cells.sound q x at few;
+              sound = counted-sound slots t c s.words r.cells.shows r.cells.sound q x at few;
+              later = later;
+              made = r.cells.made;
+              counts = λ p. dite (ℕ_discrete p q)
+                  (λ (e : p ≡ q).
+                  let now : u.counted p ≡ t.counted q + 1 = changed_at t.counted q (t.counted q + 1) p e in
+                  let had : times p v.facts.duties ≡ times p before + 1 =
+                  subst (λ z. times z v.facts.duties ≡ times z before + 1) (sym e) mine in
+                  let old : t.counted p ≡ t.counted q = ap t.counted e in omega arith)
+                  (λ (a : p ≢ q).
+                  let now : u.counted p ≡ t.counted p = changed_else t.counted q (t.counted q + 1) p a in
+                  let had : times p v.facts.duties ≡ times p before + times p (q ∷ []) =
+                  ap (times p) is ∙ times-append p before (q ∷ []) in
+                  let none = times-none p q a in omega arith);
+              hold = spares-kept slots t u s.views id v w here refl (λ y. refl) r.spares;
+            })),
+        (
+          record {
+            few = omega arith;
+            full = λ all. fuller-has t.full (t.counted q) q (omega arith);
+            saw = went-saw s r id v u v.facts.spare_slots [] before here later;
+          },
+          refl,
+        ),
+      )
+
+  -- a segment whose cells are all counted, and that isn't the tail's, leaves, or had left before
+  pub retires : (many id : ℕ) (me : Me (Option S) (View E S)) (x q : ℕ) → me.0.weight ≡ 1
+      → IsHome me.0.segments.homes q x → q + 1 < length me.0.segments.homes → Has q me.0.segments.full
+      → Allows R many id me (head_place x) (λ n. either (eqb n (head_word q 2)) (head_word q 0) n)
+      (λ n me'. Retired object q me.0 me'.0 × (me'.1 ≡ me.1))
+  retires many id me x q one home early full s r homes here small =
+      by-exchange s id me (head_place x) n (head_word q 2) (head_word q 0) (λ w. Retired object q me.0 w)
+      (λ e.
+      let was : t.slots x ≡ live q = is-live (t.slots x) q (sym e ∙ (r.cells.shows.each x below).head) in
+      let u = with_slot t x (free q) (t.outs ++ q ∷ []) t.lit in
+      let long : length t.homes ≡ length (me.0.segments.homes ++ known.homes.0) = ap length known.homes.1 in
+      let more = length-append me.0.segments.homes known.homes.0 in
+      let made = r.cells.sound.made in
+      let new = keep-turn s r id (head_place x) (head_word q 0) x me u [] here one (omega arith)
+      (retired slots t (word_at r.hidden) s.words r.cells.shows r.cells.sound x q at (omega arith)
+      (has_prefix q me.0.segments.full t.full known.full full) e) r.cells.made (λ _. refl)
+      (λ j a d is. no-spare j a d (sym was ∙ is)) in (
+        went me.0 u me.0.facts.spare_slots [],
+        new.0,
+        record {
+          out = has_right q t.outs (q ∷ []) (inl refl);
+          went = new.1;
+        },
+      ))
+      (λ a.
+      let look = segment-look s r id (head_place x) me [] here one (omega arith) in (
+        went me.0 t me.0.facts.spare_slots [],
+        look.0,
+        record {
+          out = (loads.head-found slots t (word_at r.hidden) s.words r.cells.shows r.cells.sound me.0.segments x below
+              known).gone q home early a;
+          went = look.1;
+        },
+      ))
+    where
+      t : Segments
+      t = r.segments
+
+      n : ℕ
+      n = slice_index s.words (head_place x)
+
+      known : Knows r.segments me.0.segments
+      known = (r.each_segment id me.0 here).seen
+
+      at : IsHome r.segments.homes q x
+      at = home-prefix me.0.segments.homes r.segments.homes q x (r.each_segment id me.0 here).seen.homes home
+
+      below : x < slots_for (cell_count passes limit primitive.values)
+      below = r.cells.sound.inside q x (home-prefix me.0.segments.homes r.segments.homes q x
+          (r.each_segment id me.0 here).seen.homes home)
+
+      no-spare : (j a d : ℕ) → live q ≡ spare j a d → ⊥
+      no-spare j a d e = absurd (cc)

@@ -14,16 +14,19 @@ use Rattle.cqs_rule_laws.specs.Hidden.{Hidden, now_may_draw}
 use Rattle.cqs_rule_laws.specs.Object.{Object, Primitive}
 use Rattle.cqs_rule_laws.specs.Layout.{client_words}
 use Rattle.cqs_rule_laws.specs.Views.{grown}
-use Rattle.cqs_rule_laws.specs.Ruled.{Ruled, Stands, CountersShow, CellsShow, IdleWords, HasRoom, DoorMayDraw, cell_count}
+use Rattle.cqs_rule_laws.specs.Ruled.{Ruled, Stands, CountersShow, CellsShow, IdleWords, HasRoom, DoorMayDraw, IsFinal, cell_count}
 use Rattle.cqs_rule_laws.specs.Client.{IsClient}
 use Rattle.cqs_rule_laws.specs.Lists.{NamesOnly}
 use Rattle.cqs_rule_laws.specs.Loads as load
 use Rattle.cqs_rule_laws.specs.Loads.{loaded_by}
 use Rattle.cqs_rule_laws.specs.Facts.{facts_counted}
 use Rattle.cqs_rule_laws.specs.Saw.{WasFound}
+use Rattle.cqs_rule_laws.specs.Manner.{IsSmart}
+use Rattle.cqs_rule_laws.specs.Settling.{times}
 use Rattle.cqs_rule_laws.proofs.Lists.{all_draw}
 use Rattle.cqs_slots.proofs.Loads.{later-same}
-use Rattle.cqs_rule_laws.proofs.Advance.{Turned, OthersStay}
+use Rattle.cqs_rule_laws.proofs.Advance.{Turned}
+use Rattle.cqs_rule_laws.proofs.Staying.{OthersStay}
 use Rattle.cqs_rule_laws.proofs.Drawing.{draws-word}
 use Rattle.cqs_rule_laws.proofs.Shelves.{Keeps, keeps-all}
 use Rattle.cqs_rule_laws.proofs.Others.{others-same, others-counted, door-keeps}
@@ -42,9 +45,10 @@ module _ {E S : Type 0} (object : Object E) (primitive : Primitive E S) (passes 
       → Stands d v.number facts
       → NamesOnly object.names v.number es → facts.has.payload < 2 ^ 20 → Keeps primitive.opens v facts
       → d.queue.resumes + draws_in v.facts.found ≡ r.hidden.queue.resumes + draws_in facts.found
-      → facts.spare_slots ≡ v.facts.spare_slots
+      → facts.spare_slots ≡ v.facts.spare_slots → facts.duties ≡ v.facts.duties
+      → ((k : ℕ) → r.settled k ≡ true → IsFinal (IsSmart primitive.manner.leaving) d.queue k)
       → Turned object primitive passes limit s r v i (slice_index s.words i) d es facts
-  stays s r v i d es facts counters cells room door shown others self silent owed slots draws spares =
+  stays s r v i d es facts counters cells room door shown others self silent owed slots draws spares duties finals =
       let same : slice_set s.words i (slice_index s.words i) ≡ s.words = set-get_or s.words i 0 in
       record {
         crew = ap (λ l. slice_index l 0) same;
@@ -62,7 +66,9 @@ module _ {E S : Type 0} (object : Object E) (primitive : Primitive E S) (passes 
         draws = draws;
         now = r.segments;
         later = later-same r.segments;
-        counted = r.counted;
+        settles = r.settled;
+        counts = λ q. let e = ap (times q) duties in omega arith;
+        finals = finals;
         same_slots = λ y. refl;
         same_spares = spares;
       }
@@ -77,26 +83,29 @@ module _ {E S : Type 0} (object : Object E) (primitive : Primitive E S) (passes 
       → Stands d v.number facts
       → facts.has.payload < 2 ^ 20 → Keeps primitive.opens v facts
       → d.queue.resumes + draws_in v.facts.found ≡ r.hidden.queue.resumes + draws_in facts.found
-      → facts.spare_slots ≡ v.facts.spare_slots
+      → facts.spare_slots ≡ v.facts.spare_slots → facts.duties ≡ v.facts.duties
+      → ((k : ℕ) → r.settled k ≡ true → IsFinal (IsSmart primitive.manner.leaving) d.queue k)
       → Turned object primitive passes limit s r v i (slice_index s.words i) d [] facts
-  still s r v i d facts counters cells room door shown others self owed slots draws spares =
+  still s r v i d facts counters cells room door shown others self owed slots draws spares duties finals =
       stays s r v i d [] facts counters cells room door
       (subst (λ l. primitive.shows d (client_words s.words) l r.handed) (sym (append-nil r.log)) shown) others self
-      (λ n apart. refl) owed slots draws spares
+      (λ n apart. refl) owed slots draws spares duties finals
 
   -- nothing hidden changes, and the pass goes on to these facts
   pub looks-to : (s : State (Option S) (View E S)) (r : Ruled object primitive passes limit s) (id : ℕ)
       (me : Me (Option S) (View E S)) (i : ℕ) (facts : Facts)
       → get_elem? s.views id ≡ some me.0 → me.0.weight ≡ 1 → Stands r.hidden me.0.number facts
       → facts.has.payload < 2 ^ 20 → Keeps primitive.opens me.0 facts
-      → draws_in facts.found ≡ draws_in me.0.facts.found → facts.spare_slots ≡ me.0.facts.spare_slots
+      → draws_in facts.found ≡ draws_in me.0.facts.found
+      → facts.spare_slots ≡ me.0.facts.spare_slots → facts.duties ≡ me.0.facts.duties
       → Steps object primitive passes limit client s id me i
       (slice_index s.words i) [] facts (grown me.0 facts (r.log ++ []) r.handed)
-  looks-to s r id me i facts here one self owed slots draws spares =
+  looks-to s r id me i facts here one self owed slots draws spares duties =
       steps object primitive passes limit client s r id me i
       (slice_index s.words i) r.hidden [] facts here one
       (still s r me.0 i r.hidden facts r.counters r.cells r.room r.door r.shown
-      (others-same r.hidden me.0.number) self owed slots (ap (λ n. r.hidden.queue.resumes + n) (sym draws)) spares)
+      (others-same r.hidden me.0.number) self owed slots (ap (λ n. r.hidden.queue.resumes + n) (sym draws)) spares
+      duties r.finals)
 
   -- what was found is told by what the client shows
   pub found-so : {C : Type 0} (all : C → Primitive E S) (x : C) → all x ≡ primitive → (s : State (Option S) (View E S))
@@ -130,6 +139,20 @@ module _ {E S : Type 0} (object : Object E) (primitive : Primitive E S) (passes 
       let at = k.stands in
       let may : Bool = (facts_counted me.0.limit n f).may_draw in
       let d = now_may_draw r.hidden p may in
+      let final : (j : ℕ) → r.settled j ≡ true → IsFinal (IsSmart primitive.manner.leaving) d.queue j = λ j is.
+      let i = r.finals j is in record {
+        final = i.final;
+        unwaited = λ n w. i.unwaited n (record {
+          cell = w.cell;
+          there = w.there;
+          owner = w.owner;
+          drawn = w.drawn;
+          uncollected = w.uncollected;
+          installed = w.installed;
+        });
+        met = i.met;
+        reached = i.reached;
+      } in
       let t = steps object primitive passes limit client s r id me 16 n d []
       (facts_counted me.0.limit n f) here one
       (still s r me.0 16 d (facts_counted me.0.limit n f)
@@ -162,7 +185,7 @@ module _ {E S : Type 0} (object : Object E) (primitive : Primitive E S) (passes 
         behind = record { reached = at.behind.reached; passed = at.behind.passed };
       })
       k.payload_fits (keeps-all primitive.opens me.0 (facts_counted me.0.limit n f) refl (λ j o. o))
-      (ap (λ m. r.hidden.queue.resumes + m) (sym (draws-word f.found 16 n (λ e. omega arith)))) refl) in (
+      (ap (λ m. r.hidden.queue.resumes + m) (sym (draws-word f.found 16 n (λ e. omega arith)))) refl refl final) in (
         grown me.0 (facts_counted me.0.limit n f) (r.log ++ []) r.handed,
         keeps,
         tt,
@@ -176,7 +199,15 @@ module _ {E S : Type 0} (object : Object E) (primitive : Primitive E S) (passes 
           },
           refl,
           t.2,
-          record { held = refl; owes = refl; waits = omega arith; further = refl; spares = refl; open_slot = refl },
+          record {
+            held = refl;
+            owes = refl;
+            waits = omega arith;
+            further = refl;
+            spares = refl;
+            open_slot = refl;
+            ticket = λ k e. e;
+          },
           t.1.same,
         ),
       )

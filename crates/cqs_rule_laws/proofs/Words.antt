@@ -30,6 +30,25 @@ counters-else q r words i x above suspends resumes show = record {
   resumes = other-word words i 32 x (λ e. omega arith) ∙ (show.resumes ∙ sym resumes);
 }
 
+-- the cells keep their states and payloads, and no word changes
+pub cells-same : (t : Segments) (c d : Hidden) (cells : ℕ) (words : List ℕ)
+    → ((k : ℕ) → state_at d.queue k ≡ state_at c.queue k) → ((k : ℕ) → d.payloads k ≡ c.payloads k)
+    → CellsShow t c cells words → CellsShow t d cells words
+cells-same t c d cells words states payloads show = record {
+  shows = all-stay (slots_for cells) t (word_at c) (word_at d) words words show.sound (omega arith) (λ j behind. refl)
+      says show.shows;
+  sound = show.sound;
+  made = record {
+    numbered = λ k. ap index_in (says k) ∙ show.made.numbered k;
+    unmade = λ k high. says k ∙ show.made.unmade k high;
+  };
+  fits = λ k. let f = show.fits k in let e = payloads k in omega arith;
+  bare = λ k is. payloads k ∙ show.bare k (subst IsBare (states k) is);
+}
+  where
+    says : (k : ℕ) → word_at d k ≡ word_at c k
+    says k = λ j. word_of k (states k j) (payloads k j)
+
 -- the cells keep their states and payloads, and the word is none of the slots'
 pub cells-else : (t : Segments) (c d : Hidden) (cells : ℕ) (words : List ℕ) (i x : ℕ) → i < tail_place
     → ((k : ℕ) → state_at d.queue k ≡ state_at c.queue k) → ((k : ℕ) → d.payloads k ≡ c.payloads k)

@@ -19,8 +19,9 @@ use Rattle.cqs_rule_laws.specs.Hidden.{Hidden, Gains, has_gained, happened_by, s
 use Rattle.cqs_rule_laws.specs.Lists as lists
 use Rattle.cqs_rule_laws.specs.Lists.{IsDistinct}
 use Rattle.cqs_rule_laws.specs.Ruled.{IsWaitOf, Stands}
+use Rattle.cqs_rule_laws.proofs.Settled.{rank-most}
 use Rattle.cqs_rule_laws.proofs.Cells.{same-or-not, installed-drawn, GoesOn, since-on}
-use Rattle.cqs_rule_laws.proofs.Advance.{OthersStay}
+use Rattle.cqs_rule_laws.proofs.Staying.{OthersStay}
 use Rattle.cqs_rule_laws.proofs.Lists.{has_append, has_left, has_right, has_without, without_has, distinct_append, distinct_without}
 
 -- the payload of a cell, where something was brought there
@@ -120,6 +121,13 @@ module _ (gains : Gains) (c : Hidden) (p k : ℕ) (row : CellRow) (found : CoreC
             state-here ∙ (same ∙ sym (ap state_in opens.0.finds)),
             payload-here ∙ ap (λ b. if b then payload else c.payloads k) goes,
           )
+
+  -- what is final stays
+  pub states-final : (j : ℕ) → rank (state_at c.queue j) ≡ 4 → state_at d.queue j ≡ state_at c.queue j
+  states-final j high = ⊎_elim (λ same. same.0)
+      (λ (rises : rank (state_at c.queue j) < rank (state_at d.queue j)).
+      let most = rank-most (state_at d.queue j) in absurd (omega arith))
+      (goes-on j)
 
   -- where the step doesn't write the cell
   pub loaded-same : row.makes ≡ None → (state_at d.queue k ≡ state_at c.queue k) × (d.payloads k ≡ c.payloads k)
@@ -287,6 +295,33 @@ module _ (gains : Gains) (c : Hidden) (p k : ℕ) (row : CellRow) (found : CoreC
           (λ (q : j ≡ k). absurd (tells.1 (wait-after p (subst (IsWaitOf d.queue p) q w)).0))
           (λ (a : j ≢ k). without_has j k f.waits a (at.all_waits j (wait-else_back p j a w)))
           (same-or-not j k)
+
+  -- a wait is opened where the cell wasn't final
+  pub waits-final : (f : Facts) (j : ℕ) → rank (state_at c.queue j) ≡ 4
+      → lists.Has j (waits_then row.wait k f.waits) → lists.Has j f.waits
+  waits-final f j high = by row.wait turn.wait
+    where
+      high-here : j ≡ k → rank row.finds ≡ 4
+      high-here q = sym (ap rank (ap state_in opens.0.finds ∙ opens.0.at)) ∙ (ap (λ z. rank (state_at c.queue z))
+          (sym q) ∙ high)
+
+      opened : (m : Option CoreState) → row.makes ≡ m → RowGoesOn row.finds m row.brings
+          → (HasWait found → ⊥) → HasWait after → j ≡ k → ⊥
+      opened (Some s) e goes none now q =
+          let most = rank-most s in let h = high-here q in let g = goes.0 in omega arith
+      opened None e goes none now q =
+          let same : after.state ≡ found.state = ap
+          (λ (z : Option CoreState). Rattle.cqs_core.specs.QueueSteps.state_made z found.state) e in
+          none (record { installed = subst IsInstalled same now.installed; uncollected = turn.uncollected })
+
+      by : (change : WaitChange) → TellsWait change found after → lists.Has j (waits_then change k f.waits)
+          → lists.Has j f.waits
+      by wait_stays tells h = h
+      by wait_opens tells h = ⊎_elim (λ old. old)
+          (λ (new : lists.Has j (k ∷ [])). ⊎_elim
+          (λ (q : j ≡ k). absurd (opened row.makes refl is.goes_on tells.0 tells.1 q)) (λ z. absurd z) new)
+          (has_append j f.waits (k ∷ []) h)
+      by wait_closes tells h = (has_without j k f.waits h).1
 
   own-once : (f : Facts) → Stands c p f → IsDistinct (waits_then row.wait k f.waits)
   own-once f at = by row.wait turn.wait

@@ -15,6 +15,7 @@ module _ {E S : Type 0} (object : Object E) where
     pub seen : w.seen ≡ v.seen ++ more
     pub mine : (n : ℕ) → Has n v.own → part object.names n more ≡ part object.names n entries
     pub before : List E
+    pub since : IsPrefix v.seen before
     pub ends : w.seen ≡ before ++ last
     pub same : IsSame v w
     pub handed : IsPrefix v.handed w.handed

@@ -161,6 +161,8 @@ pub record Moves {E S : Type 0} (object : Object E) (primitive : Primitive E S) 
       → NamesOnly object.names p (event.entries (moment primitive.opening p facts made n))
   pub door : (n : ℕ) → event.doing (moment primitive.opening p facts made n) ≡ doing.Door
       → (facts.doing ≡ doing.Door) ⊎ (facts.may_draw ≡ true)
+  pub ticket : (n k : ℕ) → event.doing (moment primitive.opening p facts made n) ≡ doing.Ticket k
+      → facts.doing ≡ doing.Ticket k
   pub owed : (n : ℕ) → is_owing facts.doing ≡ true
       → event.payload (moment primitive.opening p facts made n) ≡ facts.has.payload
   pub keeps : (n : ℕ) → event.entries (moment primitive.opening p facts made n) ≡ []

@@ -2,6 +2,7 @@
 use Rattle.std.specs.Prelude.{◌≡◌, ◌≢◌, ◌⊎◌, ℕ, ◌<◌, ◌^◌, Bool, List, [], Option, Some, None, if◌then◌else◌}
 use Rattle.atomic_table.specs.Table.{Me, Step}
 use Rattle.cqs_core.specs.declared.cells.CoreState.{CoreState}
+use Rattle.cqs_core.specs.declared.cells.CoreState.TheVariants as state
 use Rattle.cqs_core.specs.QueueCells.{rank, IsBare}
 use Rattle.cqs_core.specs.QueueStages as stage
 use Rattle.cqs_core.specs.QueueStages.{Stage, doing_at, MayFind}
@@ -59,9 +60,19 @@ MayExchange (at_cell row) v k word expected new = Exchanges row v k word expecte
 abbrev pub IsCrossing : {E S : Type 0} → QueueStep → View E S → ℕ → ℕ → ℕ → Type 0
 IsCrossing s v word expected new = MayExchange (row_of s) v (index_in expected) word expected new
 
--- the word n is that of the glimpse's cell
+-- The word n was found where a pass knows the cell of the glimpse to stand. It is that of the cell.
+-- Or the cell was cancelled and has left with its segment, and that of a later number stands there.
 pub record FoundCell (n : ℕ) (g : Glimpse) : Type 0 where
-  pub word : n ≡ word_of g.number g.state g.payload
+  pub word : (n ≡ word_of g.number g.state g.payload)
+      ⊎ ((g.state ≡ state.Cancelled) × (g.number < index_in n))
+  pub number : g.number < 2 ^ 40
+  pub fits : g.payload < 2 ^ 20
+  pub bare : IsBare g.state → g.payload ≡ 0
+
+-- The same for whoever only watches: a cell in any final state may have left.
+pub record WatchedCell (n : ℕ) (g : Glimpse) : Type 0 where
+  pub word : (n ≡ word_of g.number g.state g.payload)
+      ⊎ ((rank g.state ≡ 4) × (g.number < index_in n))
   pub number : g.number < 2 ^ 40
   pub fits : g.payload < 2 ^ 20
   pub bare : IsBare g.state → g.payload ≡ 0

@@ -11,6 +11,7 @@ use Rattle.cqs_rule_laws.specs.declared.view.Sighting.TheVariants.{Cell, Word}
 use Rattle.cqs_rule_laws.specs.Hidden.{Gains, has_paid, has_gained}
 use Rattle.cqs_rule_laws.specs.Layout.{suspends_place, resumes_place}
 use Rattle.cqs_rule_laws.specs.Lists.{Has, without}
+use Rattle.cqs_rule_laws.specs.Settling.{duties_then, settles_row}
 
 -- whether a pass that is at this owes something: a resumption, or the end of a cancellation that it
 -- began
@@ -97,6 +98,7 @@ facts_worked gains row k n payload f = record f {
   waits = waits_then row.wait k f.waits;
   reached = reached_with row.gain f.reached;
   passed = passed_from row.works_at row.goes_to k f.passed;
+  duties = duties_then (settles_row row) k f.duties;
   found = f.found ++ Cell k n ∷ [];
 }
 

@@ -6,6 +6,7 @@ pub mod Manner
 pub mod Object
 pub mod Segments
 pub mod Spares
+pub mod Settling
 pub mod SegmentSteps
 pub mod Slots
 pub mod Placed

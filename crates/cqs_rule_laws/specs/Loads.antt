@@ -1,9 +1,10 @@
 -- The loads of the table: of the suspend counter, and of a cell. A load of a cell may be an event:
 -- the owner of a wait learns what became of it, and a resume meets a cell that is settled.
-use Rattle.std.specs.Prelude.{◌≡◌, ℕ, ◌+◌, ◌<◌, ◌≤◌, Bool, false, List, [], length, Option, Some, None}
+use Rattle.std.specs.Prelude.{◌≡◌, ℕ, ◌+◌, ◌<◌, Bool, false, List, [], length, Option, Some, None, ◌==◌, if◌then◌else◌}
 use Rattle.atomic_table.specs.Table.{Me, Step}
 use Rattle.cqs_core.specs.declared.cells.CoreState.{CoreState}
 use Rattle.cqs_core.specs.declared.cells.CoreState.TheVariants as state
+use Rattle.cqs_core.specs.declared.doings.Doing.{Doing}
 use Rattle.cqs_core.specs.declared.doings.Doing.TheVariants as doing
 use Rattle.cqs_core.specs.QueueStages as stage
 use Rattle.cqs_core.specs.QueueStages.{MayFind}
@@ -11,13 +12,14 @@ use Rattle.cqs_core.specs.QueueSteps.{QueueStep, looks, pends, grants, late, pas
 use Rattle.cqs_words.specs.declared.cell.CellState.{CellState}
 use Rattle.cqs_words.specs.declared.cell.CellState.TheVariants as shown
 use Rattle.cqs_words.specs.declared.cell.CellWord.{CellWord}
-use Rattle.cqs_words.specs.Cell.{unpacked_cell}
+use Rattle.cqs_words.specs.Cell.{unpacked_cell, index_in}
+use Rattle.cqs_rule_laws.specs.Ruled.{number_at}
 use Rattle.cqs_rule_laws.specs.declared.view.View.{View}
 use Rattle.cqs_rule_laws.specs.declared.view.Facts.{Facts}
 use Rattle.cqs_rule_laws.specs.declared.view.Glimpse.{Glimpse}
 use Rattle.cqs_rule_laws.specs.declared.loads.Learned.{Learned}
 use Rattle.cqs_rule_laws.specs.declared.loads.Learned.TheVariants.{Nothing, Granted, Ended}
-use Rattle.cqs_rule_laws.specs.Exchanges.{FoundCell, SinceLast, HasCell}
+use Rattle.cqs_rule_laws.specs.Exchanges.{FoundCell, WatchedCell, SinceLast, HasCell}
 use Rattle.cqs_rule_laws.specs.Facts.{facts_after, facts_watched, facts_counted, is_owing}
 use Rattle.cqs_rule_laws.specs.Hidden.{Hidden, Gains}
 use Rattle.cqs_rule_laws.specs.Layout.{suspends_place}
@@ -147,32 +149,28 @@ abbrev pub learned_of : (CellState → Learned) → Option CellWord → Learned
 learned_of by None = Nothing
 learned_of by (Some cell) = by cell.state
 
--- a load that found the word n
-abbrev pub learns : LoadStep → ℕ → Learned
-learns counts n = Nothing
-learns watches n = Nothing
-learns polls n = learned_of served_in (unpacked_cell n)
-learns cancels n = learned_of served_in (unpacked_cell n)
-learns meets n = learned_of refused_in (unpacked_cell n)
-learns misses n = learned_of cancelled_in (unpacked_cell n)
+-- A load that found the word n, by a pass that works at the number k: where that of another number
+-- is found, a resume passes over the cell.
+abbrev pub learns : LoadStep → ℕ → ℕ → Learned
+learns counts k n = Nothing
+learns watches k n = Nothing
+learns polls k n = learned_of served_in (unpacked_cell n)
+learns cancels k n = learned_of served_in (unpacked_cell n)
+learns meets k n = if index_in n == k then learned_of refused_in (unpacked_cell n) else Nothing
+learns misses k n = learned_of cancelled_in (unpacked_cell n)
+
+-- a pass that has a ticket has that of this number
+abbrev pub IsTicketOf : Doing → ℕ → Type 0
+IsTicketOf at number = (k : ℕ) → at ≡ doing.Ticket k → number ≡ k
 
 -- the states in which the cell of a wait that isn't closed may be found, and that of an open ticket
 abbrev pub MayStand : LoadStep → CoreState → Type 0
 MayStand counts s = ⊥
-MayStand watches s = Unit {0}
+MayStand watches s = ⊥
 MayStand polls s = MayFind stage.idle s
 MayStand cancels s = MayFind stage.idle s
 MayStand meets s = MayFind stage.ticket s
 MayStand misses s = MayFind stage.ticket s
-
--- What is watched may have become the cell of a later number.
-abbrev pub IsNumber : LoadStep → ℕ → ℕ → Type 0
-IsNumber counts k found = ⊥
-IsNumber watches k found = k ≤ found
-IsNumber polls k found = found ≡ k
-IsNumber cancels k found = found ≡ k
-IsNumber meets k found = found ≡ k
-IsNumber misses k found = found ≡ k
 
 -- the payload of a step at a cell that has this one, by a pass at these facts
 abbrev pub told_at : StepRow → ℕ → Facts → ℕ
@@ -206,7 +204,7 @@ module _ {E S : Type 0} where
   -- where a pass may load the cell of the number k so
   abbrev pub MayLook : LoadStep → View E S → ℕ → Type 0
   MayLook counts v k = ⊥
-  MayLook watches v k = k < v.cells
+  MayLook watches v k = ⊥
   MayLook polls v k = (v.facts.doing ≡ doing.Idle) × Has k v.facts.waits
   MayLook cancels v k = (v.facts.doing ≡ doing.Idle) × Has k v.facts.waits
   MayLook meets v k = v.facts.doing ≡ doing.Ticket k
@@ -215,7 +213,7 @@ module _ {E S : Type 0} where
   -- where it may load the word so
   abbrev pub MayLoad : LoadStep → View E S → ℕ → Type 0
   MayLoad counts v word = word ≡ suspends_place
-  MayLoad watches v word = (k : ℕ) × KnowsPlace v (place_at word k) × MayLook watches v k
+  MayLoad watches v word = (k : ℕ) × KnowsPlace v (place_at word k)
   MayLoad polls v word = (k : ℕ) × KnowsPlace v (place_at word k) × MayLook polls v k
   MayLoad cancels v word = (k : ℕ) × KnowsPlace v (place_at word k) × MayLook cancels v k
   MayLoad meets v word = (k : ℕ) × KnowsPlace v (place_at word k) × MayLook meets v k
@@ -229,6 +227,7 @@ pub record CarriesLearned (gains : ℕ → ℕ) (learned : Learned) (f g : Facts
   pub further : g.has.further ≡ f.has.further
   pub spares : g.has.spares ≡ f.has.spares
   pub open_slot : g.open_slot ≡ f.open_slot
+  pub ticket : (k : ℕ) → g.doing ≡ doing.Ticket k → f.doing ≡ doing.Ticket k
 
 -- the suspend counter is n
 abbrev pub IsDrawn : ℕ → Hidden → List ℕ → Type 0
@@ -243,7 +242,7 @@ module _ {C E S : Type 0} (object : Object E) (primitive : C → Primitive E S) 
   -- a load of the cell of the number k found the word n
   pub record Looked (load : LoadStep) (k : ℕ) (v : View E S) (n : ℕ) (w : View E S) : Type 0 where
     pub glimpse : Glimpse
-    pub number : IsNumber load k glimpse.number
+    pub number : glimpse.number ≡ k
     pub cell : FoundCell n glimpse
     pub may : MayStand load glimpse.state
     pub since : SinceLast glimpse v.facts.last
@@ -252,6 +251,20 @@ module _ {C E S : Type 0} (object : Object E) (primitive : C → Primitive E S) 
         (look_entries (event_of load glimpse.state) v.number glimpse v.facts) w
     pub was : WasFound primitive (HasCell glimpse)
         (look_entries (event_of load glimpse.state) v.number glimpse v.facts) w
+
+  -- the cell of the number k, which a pass knows to stand at the word that it watched, as it was
+  pub record HasWatched (k : ℕ) (v : View E S) (n : ℕ) (w : View E S) : Type 0 where
+    pub glimpse : Glimpse
+    pub number : glimpse.number ≡ k
+    pub cell : WatchedCell n glimpse
+    pub since : SinceLast glimpse v.facts.last
+    pub was : WasFound primitive (HasCell glimpse) [] w
+
+  -- A load with no event found the word n. It tells of each cell that the pass knows to stand
+  -- there.
+  pub record Watched (word : ℕ) (v : View E S) (n : ℕ) (w : View E S) : Type 0 where
+    pub saw : Saw object v (facts_watched (index_in n) n v.facts) [] w
+    pub cells : (k : ℕ) → KnowsPlace v (place_at word k) → k < v.cells → HasWatched k v n w
 
   -- a load of the suspend counter found n
   pub record CountLoaded (v : View E S) (n : ℕ) (w : View E S) : Type 0 where
@@ -266,7 +279,7 @@ module _ {C E S : Type 0} (object : Object E) (primitive : C → Primitive E S) 
 
   abbrev pub Loaded : LoadStep → ℕ → View E S → ℕ → View E S → Type 0
   Loaded counts word v n w = CountLoaded v n w
-  Loaded watches word v n w = LoadedCell watches word v n w
+  Loaded watches word v n w = Watched word v n w
   Loaded polls word v n w = LoadedCell polls word v n w
   Loaded cancels word v n w = LoadedCell cancels word v n w
   Loaded meets word v n w = LoadedCell meets word v n w
@@ -276,4 +289,5 @@ module _ {C E S : Type 0} (object : Object E) (primitive : C → Primitive E S) 
       → Me (Option S) (View E S) → Type 0
   loaded_by load st me n me' =
       Loaded load st.word me.0 n me'.0 × (me'.1 ≡ me.1) × IsLive object me'.0
-      × CarriesLearned object.gains.held (learns load n) me.0.facts me'.0.facts × IsSame me.0 me'.0
+      × CarriesLearned object.gains.held (learns load (number_at me.0.facts.doing) n) me.0.facts
+      me'.0.facts × IsSame me.0 me'.0

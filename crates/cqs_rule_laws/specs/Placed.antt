@@ -21,7 +21,10 @@ module _ {E S : Type 0} where
     low : slot < slots_for v.cells
     word : at.word ≡ slot_cell slot (at.index % 32)
 
-  -- these two alone open and make it
+  -- these alone open and make it
+  pub place_slot : (v : View E S) (at : Place) → KnowsPlace v at → ℕ
+  place_slot v at k = k.slot
+
   pub place_word : (v : View E S) (at : Place) (k : KnowsPlace v at)
       → (slot : ℕ) × IsHome v.segments.homes (at.index / 32) slot × (slot < slots_for v.cells)
       × (at.word ≡ slot_cell slot (at.index % 32))

@@ -29,6 +29,8 @@ use Rattle.cqs_slots.specs.Shown.{Shows, AreSound, AreCells, AreCounted}
 use Rattle.cqs_slots.specs.Slots.{Segments}
 use Rattle.cqs_rule_laws.specs.Segments.{KnowsSegments}
 use Rattle.cqs_rule_laws.specs.Spares.{SparesHold}
+use Rattle.cqs_rule_laws.specs.Settling.{duties_in}
+use Rattle.cqs_rule_laws.specs.Manner.{IsSmart}
 use Rattle.cqs_rule_laws.specs.Slots.{Shelf}
 use Rattle.cqs_rule_laws.specs.Views.{WasCrew, all_own, weight, Apart, Tip, SpentHasNone, first_facts}
 
@@ -71,13 +73,6 @@ pub record CellsShow (t : Segments) (c : Hidden) (cells : ℕ) (words : List ℕ
   pub fits : (k : ℕ) → c.payloads k < 2 ^ 20
   pub bare : (k : ℕ) → IsBare (state_at c.queue k) → c.payloads k ≡ 0
 
--- no cell is counted yet
-abbrev pub none_settled : ℕ → Bool
-none_settled k = false
-
-abbrev pub no_duties : ℕ → ℕ
-no_duties s = 0
-
 -- nobody writes the words between: they hold 0 from the opening on
 pub record IdleWords (words : List ℕ) : Type 0 where
   pub none : (i : ℕ) → IsIdle i → slice_index words i ≡ 0
@@ -111,6 +106,15 @@ pub record IsWaitOf (q : Queue) (p k : ℕ) : Type 0 where
   pub drawn : k < q.suspends
   pub uncollected : cell.collected ≡ false
   pub installed : IsInstalled cell.state
+
+-- What is so of a settled cell: it is final, nobody waits there, and only a resume that passes over
+-- it has its ticket still, or may yet draw one; this by whether resumes of the client do.
+pub record IsFinal (passes_on : Type 0) (q : Queue) (k : ℕ) : Type 0 where
+  pub final : rank (state_at q k) ≡ 4
+  pub unwaited : (p : ℕ) → IsWaitOf q p k → ⊥
+  pub met : (p : ℕ) → slice_get q.doing p ≡ Some (doing.Ticket k) → (state_at q k ≡ state.Cancelled)
+      × passes_on
+  pub reached : (k < q.resumes) ⊎ ((state_at q k ≡ state.Cancelled) × passes_on)
 
 -- the number at which a pass works
 abbrev pub number_at : Doing → ℕ
@@ -222,7 +226,10 @@ module _ {E S : Type 0} (object : Object E) where
     pub counters : CountersShow hidden.queue s.words
     pub segments : Segments
     pub cells : CellsShow segments hidden (cell_count passes limit primitive.values) s.words
-    pub counted : AreCounted segments none_settled no_duties
+    pub settled : ℕ → Bool
+    pub finals : (k : ℕ) → settled k ≡ true → IsFinal (IsSmart primitive.manner.leaving)
+        hidden.queue k
+    pub counted : AreCounted segments settled (duties_in (λ (v : View E S). v.facts.duties) s.views)
     pub spares : SparesHold (slots_for (cell_count passes limit primitive.values)) segments s.views
     pub idle_words : IdleWords s.words
     pub room : HasRoom passes limit primitive.values hidden

@@ -8,12 +8,18 @@ use Rattle.cqs_rule_laws.specs.declared.view.Facts.{Facts}
 use Rattle.cqs_rule_laws.specs.declared.view.Spare.{Spare}
 use Rattle.cqs_rule_laws.specs.declared.view.View.{View}
 use Rattle.cqs_rule_laws.specs.Layout.{slots_for}
+use Rattle.cqs_rule_laws.specs.Lists.{Has}
 use Rattle.cqs_rule_laws.specs.Object.{Object}
 use Rattle.cqs_rule_laws.specs.Saw.{Saw}
 
--- a pass at these facts that has these slots spare, and found these heads besides
+-- a pass at these facts that has these slots spare and these cells to count, and found these heads
+-- besides
+abbrev pub facts_left : List Spare → List (ℕ × ℕ) → List ℕ → Facts → Facts
+facts_left spares heads duties f =
+    record f { spare_slots = spares; heads = f.heads ++ heads; duties = duties }
+
 abbrev pub facts_spared : List Spare → List (ℕ × ℕ) → Facts → Facts
-facts_spared spares heads f = record f { spare_slots = spares; heads = f.heads ++ heads }
+facts_spared spares heads f = facts_left spares heads f.duties f
 
 -- a slot that was claimed just now
 abbrev pub claimed_slot : ℕ → Spare
@@ -70,7 +76,19 @@ module _ {E S : Type 0} (object : Object E) where
     pub found : n ≢ segment_word a slot → TailFound (slots_for v.cells) n w.segments
     pub missed : n ≢ segment_word a slot → Went v.facts.spare_slots [] v w
 
+  -- A cell that the pass settled was counted, as it was to do last.
+  pub record CellCounted (before : List ℕ) (s : ℕ) (v : View E S) (n : ℕ) (w : View E S) : Type 0
+    where
+      pub few : n < 32
+      pub full : n ≡ 31 → Has s w.segments.full
+      pub saw : Saw object v (facts_left v.facts.spare_slots [] before v.facts) [] w
+
   -- the number of settled cells in the slot x was loaded
   pub record CountLoaded (x : ℕ) (v : View E S) (n : ℕ) (w : View E S) : Type 0 where
     pub found : CountFound x n v.segments w.segments
+    pub went : Went v.facts.spare_slots [] v w
+
+  -- the segment left by this step, or had left before
+  pub record Retired (s : ℕ) (v w : View E S) : Type 0 where
+    pub out : Has s w.segments.outs
     pub went : Went v.facts.spare_slots [] v w

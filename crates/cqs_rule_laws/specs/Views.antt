@@ -34,6 +34,7 @@ first_facts held = record {
   passed = [];
   open_slot = None;
   spare_slots = [];
+  duties = [];
   heads = [];
   found = [];
 }
@@ -47,6 +48,7 @@ abbrev pub facts_joined : Facts → Facts → Facts
 facts_joined mine theirs = record mine {
   has = has_both mine.has theirs.has;
   spare_slots = mine.spare_slots ++ theirs.spare_slots;
+  duties = mine.duties ++ theirs.duties;
 }
 
 -- it rises with each pass made and each pass met away
@@ -112,14 +114,15 @@ module _ {E S : Type 0} where
   abbrev pub cut_off : View E S → View E S
   cut_off v = record (single v) {
     number = v.second_number;
-    facts = record v.second { spare_slots = [] };
+    facts = record v.second { spare_slots = []; duties = [] };
     seen = v.other;
     handed = v.other_handed;
     laid = [];
     own = v.others;
   }
 
-  -- the view takes in that of another pass, which holds nothing and has no slot spare then
+  -- the view takes in that of another pass, which holds nothing, has no slot spare and no cell to
+  -- count then
   abbrev pub joined : View E S → View E S → View E S
   joined v u = record v {
     weight = 2;
@@ -180,10 +183,14 @@ module _ {E S : Type 0} where
       (i j : ℕ) (v w : View E S) (n : ℕ) → get_elem? views i ≡ some v → get_elem? views j ≡ some w
       → lists.Has n (all_own v) → lists.Has n (all_own w) → i ≡ j
 
-  -- what is left of a view that was spent has no number
+  -- what is left of a view that was spent: it has no number, and no cell to count
+  pub record IsSpent (v : View E S) : Type 0 where
+    pub numberless : (n : ℕ) → lists.Has n (all_own v) → ⊥
+    pub dutiless : v.facts.duties ≡ []
+
   abbrev pub SpentHasNone : List (View E S) → Type 0
-  SpentHasNone views = (j : ℕ) (v : View E S) → get_elem? views j ≡ some v → v.weight ≡ 0 → (n : ℕ)
-      → lists.Has n (all_own v) → ⊥
+  SpentHasNone views = (j : ℕ) (v : View E S) → get_elem? views j ≡ some v → v.weight ≡ 0
+      → IsSpent v
 
   -- the whole history is what some live pass has seen
   pub record Tip (log : List E) (views : List (View E S)) : Type 0 where

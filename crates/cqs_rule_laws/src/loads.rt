@@ -11,6 +11,7 @@ ghost use Rattle.cqs_rule_laws.specs.Loads.{
   misses,
   learned_of,
   served_in,
+  refused_in,
 };
 ghost use Rattle.cqs_words.specs.Cell.{unpacked_cell};
 
@@ -33,9 +34,9 @@ pub trait Load {
 
     ghost load: { LoadStep };
 
-    /// What a load that found this word tells its pass.
-    fn learns(found: u64) -> Learned
-        ensures { result ≡ learns load found };
+    /// What a load that found this word tells its pass, which works at this number.
+    fn learns(found: u64, number: u64) -> Learned
+        ensures { result ≡ learns load number found };
 }
 
 // What the owner of a wait learns from the word of its cell.
@@ -48,13 +49,23 @@ fn owner_learns(found: u64) -> Learned
     }
 }
 
+// What a resume in smart mode learns from the word of its cell.
+fn resume_learns(found: u64) -> Learned
+    ensures { result ≡ learned_of refused_in (unpacked_cell found) }
+{
+    match CellWord::unpack(found) {
+        Some(cell) if cell.state == CellState::Refused => Learned::Ended,
+        _ => Learned::Nothing,
+    }
+}
+
 /// The suspend counter.
 pub struct Counts;
 
 impl Load for Counts {
     ghost load = { counts };
 
-    fn learns(_found: u64) -> Learned {
+    fn learns(_found: u64, _number: u64) -> Learned {
         Learned::Nothing
     }
 }
@@ -65,7 +76,7 @@ pub struct Watches;
 impl Load for Watches {
     ghost load = { watches };
 
-    fn learns(_found: u64) -> Learned {
+    fn learns(_found: u64, _number: u64) -> Learned {
         Learned::Nothing
     }
 }
@@ -76,7 +87,7 @@ pub struct Polls;
 impl Load for Polls {
     ghost load = { polls };
 
-    fn learns(found: u64) -> Learned {
+    fn learns(found: u64, _number: u64) -> Learned {
         owner_learns(found)
     }
 }
@@ -88,7 +99,7 @@ pub struct Cancels;
 impl Load for Cancels {
     ghost load = { cancels };
 
-    fn learns(found: u64) -> Learned {
+    fn learns(found: u64, _number: u64) -> Learned {
         owner_learns(found)
     }
 }
@@ -100,10 +111,11 @@ pub struct Meets;
 impl Load for Meets {
     ghost load = { meets };
 
-    fn learns(found: u64) -> Learned {
-        match CellWord::unpack(found) {
-            Some(cell) if cell.state == CellState::Refused => Learned::Ended,
-            _ => Learned::Nothing,
+    fn learns(found: u64, number: u64) -> Learned {
+        if CellWord::index_in(found) == number {
+            resume_learns(found)
+        } else {
+            Learned::Nothing
         }
     }
 }
@@ -114,7 +126,7 @@ pub struct Misses;
 impl Load for Misses {
     ghost load = { misses };
 
-    fn learns(found: u64) -> Learned {
+    fn learns(found: u64, _number: u64) -> Learned {
         match CellWord::unpack(found) {
             Some(cell) if cell.state == CellState::Cancelled => Learned::Ended,
             _ => Learned::Nothing,

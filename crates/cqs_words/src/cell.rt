@@ -7,6 +7,7 @@ ghost use Rattle.cqs_words.specs.Cell.{
   state_of,
   payload_in,
   CellFits,
+  index_in,
   packed_cell,
   unpacked_cell,
 };
@@ -116,6 +117,15 @@ impl CellWord {
             state,
             payload: payload as u32,
         })
+    }
+
+    /// The number in the queue of the cell that this word stands for. Whoever knows a place alone
+    /// tells by it whether the cell there is still the one that it looks for.
+    #[inline]
+    pub fn index_in(word: u64) -> u64
+        ensures { result ≡ index_in word }
+    {
+        split(word, CODE_BITS + PAYLOAD_BITS).0
     }
 
     /// The payload of the cell that the number stands for, where that is in this state. Whoever

@@ -57,6 +57,7 @@ impl<C: ClientWords> Queue<C> {
                 further: 0,
                 owes: false,
                 waits: 0,
+                ticket: 0,
             },
         ))
     }

@@ -49,6 +49,7 @@ impl<C: ClientWords> Queue<C> {
     {
         let found = add_at::<C, Putting<C, K>>(&self.table.shared, &mut pass.seat, RESUMES_WORD, 1);
         pass.owes = true;
+        pass.ticket = found;
         found
     }
 }

@@ -64,7 +64,7 @@ impl<C: ClientWords> Queue<C> {
         ensures saw { HasLoaded L.load word result pass.old pass.new }
     {
         let found = load_at::<C, Loading<C, L>>(&self.table.shared, &mut pass.seat, word);
-        match L::learns(found) {
+        match L::learns(found, pass.ticket) {
             Learned::Nothing => {}
             Learned::Granted => {
                 pass.held = C::held_after_take(pass.held);
@@ -94,6 +94,7 @@ impl<C: ClientWords> Queue<C> {
         let change = K::change();
         pass.owes = change.owes;
         pass.further = further_after(change, pass.further);
+        pass.ticket = found;
         found
     }
 

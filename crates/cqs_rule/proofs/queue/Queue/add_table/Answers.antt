@@ -42,6 +42,7 @@ invariant_of-pass g c =
       shut = carries.open_slot ∙ p.shut;
       owes_is = carries.owes ∙ ap (λ z. z.owes) (sym is);
       waits_are = counts.waits ∙ p.waits_are;
+      ticket_is = counts.ticket;
       cells_are = ap words_for same.cells ∙ (p.cells_are ∙ ap (λ t. t.words) (sym e.table));
       inside = e.told.2.inside;
       few_cells = subst (λ n. n < 2147483648) (sym same.cells) p.few_cells;

@@ -4,7 +4,7 @@ use Rattle.cqs_rule_laws.specs.Events.{in_any_case}
 use Rattle.cqs_rule_laws.proofs.Moves.{moves-at}
 use Rattle.cqs_rule.proofs.Words.{raised}
 use Rattle.cqs_rule.proofs.Fitting.{word-inside, moved-word}
-use Rattle.cqs_rule.proofs.Moved.{keeps-moved}
+use Rattle.cqs_rule.proofs.Moved.{keeps-moved, moved-ticket}
 use Rattle.cqs_rule.proofs.queue.Queue.add_word.Goals as goal
 
 pub add_at-found-requires-clause-table : goal.add_at-found-requires-clause-table
@@ -35,6 +35,8 @@ invariant_of-pass g c =
     seat.me.0 e.told.0 e.told.2 seat.me.1 seat.table_id.words c.held_after-pass.result c.further_after-pass.result
     c.owes_after-pass.result e.told.1 (ap (λ t. t.words) (sym e.table)) c.held_after-pass.ensures
     c.owes_after-pass.ensures c.further_after-pass.ensures
+    (moved-ticket c.args.self.now.table.shared.key.client g.M.Shown.event in_any_case c.args.pass.now c.args.word _
+    c.requires.law c.requires.belongs.opening c.add_at-found.result)
 
 pub returns-clause-belongs : goal.returns-clause-belongs
 returns-clause-belongs g c =

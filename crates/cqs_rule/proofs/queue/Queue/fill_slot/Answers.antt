@@ -40,6 +40,7 @@ invariant_of-pass g c =
       shut = ap (λ z. z.facts.open_slot) is ∙ p.shut;
       owes_is = ap (λ z. is_owing z.facts.doing) is ∙ p.owes_is;
       waits_are = ap (λ (z : View _ _). length z.facts.waits) is ∙ p.waits_are;
+      ticket_is = λ k e. p.ticket_is k (sym (ap (λ (z : View _ _). z.facts.doing) is) ∙ e);
       cells_are = ap (λ z. words_for z.cells) is ∙ (p.cells_are ∙ ap (λ t. t.words) (sym table));
       inside = inside-swapped _ _ _ swap p.inside;
       few_cells = subst (λ n. n < 2147483648) (sym (ap (λ z. z.cells) is)) p.few_cells;

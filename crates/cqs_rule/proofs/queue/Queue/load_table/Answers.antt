@@ -1,7 +1,7 @@
 use Rattle.std.proofs.Common.{rules, refl, ◌<◌, ◌∙◌, ap, sym, subst, length, arith}
 use Rattle.cqs_rule_laws.specs.Layout.{words_for}
 use Rattle.cqs_rule_laws.specs.Loads.{CarriesLearned}
-use Rattle.cqs_rule_laws.proofs.CellLoads.{loads, load-low}
+use Rattle.cqs_rule_laws.proofs.CellLoads.{loads, load-low, learns-at}
 use Rattle.cqs_rule.proofs.queue.Queue.load_table.Goals as goal
 
 pub load_at-found-requires-clause-inside : goal.load_at-found-requires-clause-inside
@@ -26,7 +26,8 @@ invariant_of-pass g c =
     let e = c.load_at-found.ensures in
     let same = e.told.4 in
     let carries = subst (λ z. CarriesLearned gains z p.seat.me.0.facts c.load_at-found.new.seat.me.0.facts)
-    (sym c.learns.ensures ∙ c.in-Nothing.is) e.told.3 in
+    (sym (c.learns.ensures ∙ learns-at g.L.Load.load p.seat.me.0 c.args.word p.ticket c.load_at-found.result
+    c.requires.load p.ticket_is) ∙ c.in-Nothing.is) e.told.3 in
     let waits = carries.waits in
     let was = p.waits_are in record {
       live = (same.weight ∙ p.live.0, ap length e.told.1 ∙ p.live.1);
@@ -37,6 +38,7 @@ invariant_of-pass g c =
       shut = carries.open_slot ∙ p.shut;
       owes_is = carries.owes ∙ p.owes_is;
       waits_are = omega arith;
+      ticket_is = λ k t. p.ticket_is k (carries.ticket k t);
       cells_are = ap words_for same.cells ∙ (p.cells_are ∙ ap (λ t. t.words) (sym e.table));
       inside = e.told.2.inside;
       few_cells = subst (λ n. n < 2147483648) (sym same.cells) p.few_cells;
@@ -49,7 +51,8 @@ invariant_of-pass-in-Ended g c =
     let e = c.load_at-found.ensures in
     let same = e.told.4 in
     let carries = subst (λ z. CarriesLearned gains z p.seat.me.0.facts c.load_at-found.new.seat.me.0.facts)
-    (sym c.learns.ensures ∙ c.in-Ended.is) e.told.3 in
+    (sym (c.learns.ensures ∙ learns-at g.L.Load.load p.seat.me.0 c.args.word p.ticket c.load_at-found.result
+    c.requires.load p.ticket_is) ∙ c.in-Ended.is) e.told.3 in
     let waits = carries.waits in
     let was = p.waits_are in record {
       live = (same.weight ∙ p.live.0, ap length e.told.1 ∙ p.live.1);
@@ -60,6 +63,7 @@ invariant_of-pass-in-Ended g c =
       shut = carries.open_slot ∙ p.shut;
       owes_is = carries.owes;
       waits_are = omega arith;
+      ticket_is = λ k t. p.ticket_is k (carries.ticket k t);
       cells_are = ap words_for same.cells ∙ (p.cells_are ∙ ap (λ t. t.words) (sym e.table));
       inside = e.told.2.inside;
       few_cells = subst (λ n. n < 2147483648) (sym same.cells) p.few_cells;

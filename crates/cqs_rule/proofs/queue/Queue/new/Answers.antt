@@ -29,6 +29,7 @@ invariant_of-result g c =
       shut = ap (λ z. z.facts.open_slot) me;
       owes_is = ap (λ z. is_owing z.facts.doing) me;
       waits_are = ap (λ (z : View _ _). length z.facts.waits) me;
+      ticket_is = λ k e. let idle = ap (λ (z : View _ _). z.facts.doing) me in absurd (cc);
       cells_are = ap (λ (z : View _ _). words_for z.cells) me ∙ sym h.table.2;
       inside = h.seat.1.inside;
       few_cells = subst (λ n. n < 2147483648) (sym (ap (λ z. z.cells) me))

@@ -2,6 +2,8 @@ use Rattle.std.proofs.Common.{rules, ◌<◌, ◌∙◌, ap, sym, subst, length,
 use Rattle.cqs_rule_laws.specs.Layout.{words_for}
 use Rattle.cqs_rule_laws.proofs.CellPlaces.{resumes-inside}
 use Rattle.cqs_rule_laws.proofs.Putting.{MayPut, put}
+use Rattle.cqs_core.specs.QueueSteps.{puts, row_of}
+use Rattle.cqs_rule.proofs.Numbers.{drawn-ticket}
 use Rattle.cqs_rule.proofs.queue.Queue.put_at.Goals as goal
 
 pub add_at-found-requires-clause-inside : goal.add_at-found-requires-clause-inside
@@ -44,6 +46,9 @@ invariant_of-pass g c =
       shut = carries.open_slot ∙ p.shut;
       owes_is = carries.owes;
       waits_are = omega arith;
+      ticket_is = drawn-ticket g.C.ClientWords.object puts (row_of puts) g.K.Numbered.slot p.seat.me.0
+          c.add_at-found.result
+          c.add_at-found.new.seat.me.0 e.told.0;
       cells_are = ap words_for same.cells ∙ (p.cells_are ∙ ap (λ t. t.words) (sym e.table));
       inside = e.told.2.inside;
       few_cells = subst (λ n. n < 2147483648) (sym same.cells) p.few_cells;

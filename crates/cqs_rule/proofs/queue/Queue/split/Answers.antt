@@ -121,6 +121,7 @@ invariant_of-result g c =
       shut = k.shut;
       owes_is = k.owes_is;
       waits_are = k.waits_are;
+      ticket_is = k.ticket_is;
       cells_are = k.cells_are;
       inside = k.inside;
       few_cells = k.few_cells;

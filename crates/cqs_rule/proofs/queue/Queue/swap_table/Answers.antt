@@ -5,7 +5,7 @@ use Rattle.cqs_core.specs.QueueSteps.{row_of}
 use Rattle.cqs_rule_laws.specs.Facts.{is_owing}
 use Rattle.cqs_rule_laws.specs.Layout.{words_for}
 use Rattle.cqs_words.specs.Cell.{index_in}
-use Rattle.cqs_rule.proofs.Crossed.{same-made, stays-missed}
+use Rattle.cqs_rule.proofs.Crossed.{same-made, stays-missed, ticketless}
 use Rattle.cqs_rule.proofs.queue.Queue.swap_table.Goals as goal
 
 pub exchange_at-found-requires-clause-inside : goal.exchange_at-found-requires-clause-inside
@@ -62,6 +62,8 @@ invariant_of-pass g c =
       shut = carries.open_slot ∙ p.shut;
       owes_is = carries.owes ∙ ap (λ z. z.owes) (sym is);
       waits_are = omega arith;
+      ticket_is = λ j e. absurd (ticketless C.object C.primitive s (index_in c.args.saw) c.args.saw p.seat.me.0
+          c.exchange_at-found.result w c.exchange_at-found.ensures.told.0 c.if-found-saw.true j e);
       cells_are = ap words_for same.cells ∙ (p.cells_are ∙ ap (λ t. t.words) (sym e.table));
       inside = e.told.2.inside;
       few_cells = subst (λ n. n < 2147483648) (sym same.cells) p.few_cells;
@@ -85,6 +87,7 @@ invariant_of-pass-else-found-saw g c =
       shut = stays.open_slot ∙ p.shut;
       owes_is = ap is_owing stays.doing ∙ p.owes_is;
       waits_are = ap length stays.waits ∙ p.waits_are;
+      ticket_is = λ k e. p.ticket_is k (sym stays.doing ∙ e);
       cells_are = ap words_for same.cells ∙ (p.cells_are ∙ ap (λ t. t.words) (sym e.table));
       inside = e.told.2.inside;
       few_cells = subst (λ n. n < 2147483648) (sym same.cells) p.few_cells;

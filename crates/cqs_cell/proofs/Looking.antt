@@ -1,63 +1,77 @@
 -- A look answers the cell that it found, or what was left there for a wait that was served.
-use Rattle.std.proofs.Common.{◌≡◌, ◌⊎◌, ℕ, Option, Some, None, refl, sym, ap, ◌∙◌, subst, inl, inr, ⊎_elim}
+use Rattle.std.proofs.Common.{◌≡◌, ◌≢◌, ◌⊎◌, ℕ, ◌<◌, Option, Some, refl, sym, ap, ◌∙◌, subst, inl, inr, ⊎_elim}
 use Rattle.cqs_core.specs.declared.cells.CoreState.{CoreState}
 use Rattle.cqs_core.specs.declared.cells.CoreState.TheVariants as state
 use Rattle.cqs_core.specs.QueueStages as stage
 use Rattle.cqs_core.specs.QueueStages.{MayFind}
 use Rattle.cqs_words.specs.declared.cell.CellState.{CellState}
 use Rattle.cqs_words.specs.declared.cell.CellState.TheVariants as shown
-use Rattle.std.proofs.lemmas.Option.{same_Some}
 use Rattle.cqs_words.specs.declared.cell.CellWord.{CellWord}
 use Rattle.cqs_words.specs.Cell.{payload_in, unpacked_cell}
 use Rattle.cqs_rule_laws.specs.declared.client.ClientWords.{Ghosts}
 use Rattle.cqs_rule_laws.specs.declared.config.Place.{Place}
 use Rattle.cqs_rule.specs.declared.queue.Pass.{Pass}
 use Rattle.cqs_rule_laws.specs.declared.view.View.{View}
-use Rattle.cqs_rule_laws.specs.Loads.{LoadStep, counts, watches, polls, cancels, meets, misses, MayLook, MayLoad, Looked, Loaded}
+use Rattle.cqs_rule_laws.specs.Loads.{LoadStep, counts, watches, polls, cancels, meets, misses, MayLook, MayLoad, Looked, Watched, Loaded}
 use Rattle.cqs_rule_laws.specs.Object.{Object, Primitive}
 use Rattle.cqs_rule_laws.specs.Placed.{KnowsPlace}
 use Rattle.cqs_rule_laws.specs.Ruled.{shown_state}
-use Rattle.cqs_cell.specs.Looks.{LooksAt, HasLookedAtWord, HasPolled, IsGrant}
-use Rattle.cqs_cell.specs.Transitions.{IsCellWord}
-use Rattle.cqs_cell.proofs.Made.{unpacks}
+use Rattle.cqs_rule.specs.Passes.{pass_view}
+use Rattle.cqs_cell.specs.Found.{cell_found, Shows}
+use Rattle.cqs_cell.specs.Looks.{LooksAt, WatchesAt, HasLeft, HasLookedAtWord, HasPolled, IsGrant}
+use Rattle.cqs_cell.proofs.Answered.{cell_shown, its-own, shows-found, tells-watched, unpacks-found, word-found}
 
 module _ {C E S : Type 0} (object : Object E) (primitive : C → Primitive E S) where
   -- the load of its word tells of the cell
-  looked-at : (load : LoadStep) (v w : View E S) (at : Place) (n : ℕ) → KnowsPlace v at → MayLook load v at.index
+  pub looked-at : (load : LoadStep) (v w : View E S) (at : Place) (n : ℕ) → KnowsPlace v at → MayLook load v at.index
       → Loaded object primitive load at.word v n w → Looked object primitive load at.index v n w
   looked-at counts v w at n place may l = absurd may
-  looked-at watches v w at n place may l = l at.index place may
+  looked-at watches v w at n place may l = absurd may
   looked-at polls v w at n place may l = l at.index place may
   looked-at cancels v w at n place may l = l at.index place may
   looked-at meets v w at n place may l = l at.index place may
   looked-at misses v w at n place may l = l at.index place may
 
-  -- the cell that the word unpacks to is the one found
-  pub looks-at : (load : LoadStep) (v w : View E S) (at : Place) (n : ℕ) (cell : CellWord) → KnowsPlace v at
-      → MayLook load v at.index → Loaded object primitive load at.word v n w → unpacked_cell n ≡ Some cell
-      → LooksAt object primitive load at.index v cell w
-  looks-at load v w at n cell place may l is =
-      let found = looked-at load v w at n place may l in
-      let same = same_Some _ cell (sym (unpacks n found.glimpse found.cell) ∙ is) in
+  -- and so does the cell that is answered
+  looks-found : (load : LoadStep) (k : ℕ) (v : View E S) (n : ℕ) (w : View E S)
+      → Looked object primitive load k v n w → LooksAt object primitive load k v (cell_found k (unpacked_cell n)) w
+  looks-found load k v n w l = record {
+    word = n;
+    looked = l;
+    shows = subst (λ j. Shows n l.glimpse (cell_found j (unpacked_cell n))) l.number (shows-found n l.glimpse l.cell);
+  }
+
+  pub looks-at : (load : LoadStep) (k : ℕ) (v : View E S) (n : ℕ) (w : View E S) (cell : CellWord)
+      → cell ≡ cell_found k (unpacked_cell n) → Looked object primitive load k v n w
+      → LooksAt object primitive load k v cell w
+  looks-at load k v n w cell is l =
+      subst (λ z. LooksAt object primitive load k v z w) (sym is) (looks-found load k v n w l)
+
+  watches-found : (at : Place) (v : View E S) (n : ℕ) (w : View E S) → KnowsPlace v at → at.index < v.cells
+      → Watched object primitive at.word v n w
+      → WatchesAt object primitive at.index at.word v (cell_found at.index (unpacked_cell n)) w
+  watches-found at v n w place low l =
+      let saw = l.cells at.index place low in
       record {
-        word = n;
-        looked = found;
-        index = ap (λ (c : CellWord). c.index) same;
-        state = ap (λ (c : CellWord). c.state) same;
-        payload = ap (λ (c : CellWord). c.payload) same;
+        found = n;
+        watched = l;
+        saw = saw;
+        shows = subst (λ j. Shows n saw.glimpse (cell_found j (unpacked_cell n))
+            ⊎ HasLeft n saw.glimpse (cell_found j (unpacked_cell n))) saw.number
+            (tells-watched n saw.glimpse saw.cell);
       }
 
-  pub looks-some : (load : LoadStep) (v w : View E S) (at : Place) (n : ℕ) → KnowsPlace v at → MayLook load v at.index
-      → Loaded object primitive load at.word v n w → unpacked_cell n ≡ None → ⊥
-  looks-some load v w at n place may l none =
-      let found = looked-at load v w at n place may l in
-      let both = sym none ∙ unpacks n found.glimpse found.cell in absurd (cc)
+  pub watches-at : (at : Place) (v : View E S) (n : ℕ) (w : View E S) (cell : CellWord)
+      → cell ≡ cell_found at.index (unpacked_cell n) → KnowsPlace v at → at.index < v.cells
+      → Watched object primitive at.word v n w → WatchesAt object primitive at.index at.word v cell w
+  watches-at at v n w cell is place low l =
+      subst (λ z. WatchesAt object primitive at.index at.word v z w) (sym is) (watches-found at v n w place low l)
 
 -- where a pass may look at a cell it may load the cell's word
 pub may-load : {E S : Type 0} (load : LoadStep) (v : View E S) (at : Place) → KnowsPlace v at → MayLook load v at.index
     → MayLoad load v at.word
 may-load counts v at place may = absurd may
-may-load watches v at place may = (at.index, place, may)
+may-load watches v at place may = absurd may
 may-load polls v at place may = (at.index, place, may)
 may-load cancels v at place may = (at.index, place, may)
 may-load meets v at place may = (at.index, place, may)
@@ -77,6 +91,9 @@ stands-or-served state.Delegated may = absurd may
 stands-or-served state.Cancelled may = absurd may
 stands-or-served state.Refused may = absurd may
 
+uncancelled : (s : CoreState) → MayFind stage.idle s → s ≢ state.Cancelled
+uncancelled s may cancelled = absurd (subst (MayFind stage.idle) cancelled may)
+
 -- so the one question, whether it was served, tells which of the two it is
 pub grant-in : (cell : CellWord) → (cell.state ≡ shown.Waiter) ⊎ (cell.state ≡ shown.Resumed)
     → IsGrant (payload_in shown.Resumed (Some cell)) cell
@@ -88,24 +105,23 @@ grant-in cell both =
     let resumed : Told shown.Resumed = (refl, refl) in
     ⊎_elim (λ waits. subst Told (sym waits) waiting) (λ served. subst Told (sym served) resumed) both
 
-module _ {C E S : Type 0} (object : Object E) (primitive : C → Primitive E S) where
-  pub granted : (k : ℕ) (v w : View E S) (cell : CellWord) → LooksAt object primitive polls k v cell w
-      → IsGrant (payload_in shown.Resumed (Some cell)) cell
-  granted k v w cell l =
-      grant-in cell (⊎_elim (λ waits. inl (sym l.state ∙ waits)) (λ served. inr (sym l.state ∙ served))
-      (stands-or-served l.looked.glimpse.state l.looked.may))
-
-module _ {C S E : Type 0} {g : Ghosts C S E} (k word : ℕ) (p p' : Pass C S E g) (cell : IsCellWord word)
-    (looks : HasLookedAtWord polls k word p p') where
-  polled-at : (found : Option CellWord) → unpacked_cell word ≡ found
-      → HasPolled k (payload_in shown.Resumed found) p p'
-  polled-at None is = absurd (cell is)
-  polled-at (Some cell) is = record {
-    cell = cell;
-    looks = looks cell is;
-    grant = granted g.object g.primitive k _ _ cell (looks cell is);
-  }
-
+module _ {C S E : Type 0} {g : Ghosts C S E} where
   -- the word of the cell of a wait tells what its owner learned
-  pub polled : (found : Option ℕ) → found ≡ payload_in shown.Resumed (unpacked_cell word) → HasPolled k found p p'
-  polled found is = subst (λ f. HasPolled k f p p') (sym is) (polled-at _ refl)
+  pub polled : (k word : ℕ) (p p' : Pass C S E g) → HasLookedAtWord polls k word p p' → (found : Option ℕ)
+      → found ≡ payload_in shown.Resumed (unpacked_cell word) → HasPolled k found p p'
+  polled k word p p' l found is =
+      let here = stands-or-served l.glimpse.state l.may in
+      let unpacked = unpacks-found word l.glimpse l.cell (uncancelled l.glimpse.state l.may) in
+      let looks = looks-found g.object g.primitive polls k (pass_view p) word (pass_view p') l in
+      let own : cell_found k (unpacked_cell word) ≡ cell_shown l.glimpse =
+      subst (λ j. cell_found j (unpacked_cell word) ≡ cell_shown l.glimpse) l.number
+      (its-own word l.glimpse (word-found word l.glimpse l.cell (uncancelled l.glimpse.state l.may)) l.cell.number
+      l.cell.fits) in
+      record {
+        cell = cell_found k (unpacked_cell word);
+        looks = looks;
+        grant = subst (λ (o : Option ℕ). IsGrant o (cell_found k (unpacked_cell word)))
+            (sym (is ∙ ap (payload_in shown.Resumed) unpacked))
+            (subst (IsGrant (payload_in shown.Resumed (Some (cell_shown l.glimpse)))) (sym own)
+            (grant-in (cell_shown l.glimpse) here));
+      }

@@ -1,7 +1,6 @@
 -- What an exchange on a cell tells: it was made, or the cell was found otherwise.
-use Rattle.std.proofs.Common.{◌≡◌, ◌≢◌, ℕ, ◌<◌, ◌≤◌, ◌^◌, List, [], ◌∷◌, ◌++◌, length, Some, None, sym, refl, ap, ◌∙◌, subst, ⊎_elim, arith}
+use Rattle.std.proofs.Common.{◌≡◌, ◌≢◌, ℕ, ◌<◌, ◌≤◌, ◌^◌, List, [], ◌∷◌, ◌++◌, length, Some, sym, refl, ap, ◌∙◌, subst, ⊎_elim, arith}
 use Rattle.std.proofs.lemmas.List.{append-nil}
-use Rattle.std.proofs.lemmas.Option.{same_Some}
 use Rattle.cqs_core.specs.declared.cells.CoreState.{CoreState}
 use Rattle.cqs_core.specs.declared.cells.CoreState.TheVariants as state
 use Rattle.cqs_core.specs.QueueCells.{rank, IsBare}
@@ -11,7 +10,6 @@ use Rattle.cqs_core.specs.QueueSteps.{QueueStep, row_of, CellRow, StepRow, at_co
 use Rattle.cqs_words.specs.declared.cell.CellState.{CellState}
 use Rattle.cqs_words.specs.declared.cell.CellWord.{CellWord}
 use Rattle.cqs_words.specs.Cell.{unpacked_cell, index_in}
-use Rattle.cqs_words.proofs.CellLaws.{unpacked_cell-packed_cell}
 use Rattle.cqs_rule_laws.specs.declared.config.Place.{Place}
 use Rattle.cqs_rule_laws.specs.declared.view.Facts.{Facts}
 use Rattle.cqs_rule_laws.specs.declared.view.Glimpse.{Glimpse}
@@ -23,7 +21,7 @@ use Rattle.cqs_rule_laws.specs.Facts.{facts_worked, facts_missed}
 use Rattle.cqs_rule_laws.specs.Manner.{Leaving, asks, passes_on, at_once, Asks, IsSmart}
 use Rattle.cqs_rule_laws.specs.Placed.{KnowsPlace}
 use Rattle.cqs_rule_laws.specs.Object.{Object, Primitive}
-use Rattle.cqs_rule_laws.specs.Ruled.{shown_state, word_of}
+use Rattle.cqs_rule_laws.specs.Ruled.{word_of}
 use Rattle.cqs_rule_laws.specs.Saw.{Saw, WasFound}
 use Rattle.cqs_rule_laws.proofs.Calls.{saw-then}
 use Rattle.cqs_rule_laws.proofs.CellSteps.{word_of-injective}
@@ -31,14 +29,12 @@ use Rattle.cqs_rule_laws.proofs.Drawing.{draws-cell, knows-still}
 use Rattle.cqs_rule.proofs.Places.{knows-saw}
 use Rattle.cqs_cell.specs.Crossings.{CrossesRow, CrossesBy, Crosses, IsSureBy, IsLastBy}
 use Rattle.cqs_cell.specs.Transitions.{facts_since, Made, Missed, MissedCell, MissedCellBy, MadeBy}
+use Rattle.cqs_core.proofs.QueueRows.{rows}
+use Rattle.cqs_core.proofs.QueueUniform.{IsCellRow, IsRow, GoesOn}
+use Rattle.cqs_rule_laws.proofs.Settled.{rank-most}
+use Rattle.cqs_cell.specs.Found.{cell_found, Shows}
 use Rattle.cqs_cell.proofs.Crossing.{row-index}
-
--- the cell that the word of a cell unpacks to
-pub unpacks : (n : ℕ) (g : Glimpse) → FoundCell n g
-    → unpacked_cell n ≡ Some (record { index = g.number; state = shown_state g.state; payload = g.payload })
-unpacks n g found =
-    let cell : CellWord = record { index = g.number; state = shown_state g.state; payload = g.payload } in
-    ap unpacked_cell found.word ∙ unpacked_cell-packed_cell cell (record { index = found.number; payload = found.fits })
+use Rattle.cqs_cell.proofs.Answered.{shows-found, number-found, word-found, word-of-number}
 
 module _ {C E S : Type 0} (object : Object E) (primitive : C → Primitive E S) where
   -- an exchange that was made
@@ -46,9 +42,11 @@ module _ {C E S : Type 0} (object : Object E) (primitive : C → Primitive E S) 
       → CrossesRow row v at payload expected new → Crossed object primitive s row at.index expected v n w → n ≡ expected
       → Made object primitive s row 0 at.index payload v w
   made-row s row at payload expected new n v w x c same =
+      let word = word-of-number n c.found c.cell
+      (ap index_in same ∙ (row-index v at payload expected new row x ∙ sym c.number)) in
       let is = word_of-injective c.found.number at.index c.found.state row.finds c.found.payload payload c.cell.fits
       x.payload_fits
-      (sym c.cell.word ∙ (same ∙ x.expects)) in
+      (sym word ∙ (same ∙ x.expects)) in
       let told = payload_told row.gain payload v.facts.has.payload in
       let m = c.made same in
       let g : c.found ≡ record { number = at.index; state = row.finds; payload = payload } =
@@ -73,12 +71,13 @@ module _ {C E S : Type 0} (object : Object E) (primitive : C → Primitive E S) 
 
   -- one that wasn't
   missed-row : (s : QueueStep) (row : CellRow) (at : Place) (payload expected new n : ℕ) (v w : View E S)
-      (cell : CellWord)
-      → CrossesRow row v at payload expected new → Crossed object primitive s row at.index expected v n w → n ≢ expected
-      → unpacked_cell n ≡ Some cell → MissedCell object primitive row at.index payload v cell w
-  missed-row s row at payload expected new n v w cell x c apart is =
+      → IsCellRow row → CrossesRow row v at payload expected new
+      → Crossed object primitive s row at.index expected v n w → n ≢ expected
+      → MissedCell object primitive row at.index payload v (cell_found at.index (unpacked_cell n)) w
+  missed-row s row at payload expected new n v w is x c apart =
       let g = c.found in
-      let same = same_Some _ cell (sym (unpacks n g c.cell) ∙ is) in
+      let shows : Shows n g (cell_found at.index (unpacked_cell n)) =
+      subst (λ k. Shows n g (cell_found k (unpacked_cell n))) c.number (shows-found n g c.cell) in
       let m = c.missed apart in
       record {
         missed = record {
@@ -86,18 +85,26 @@ module _ {C E S : Type 0} (object : Object E) (primitive : C → Primitive E S) 
           glimpse = g;
           number = c.number;
           cell = c.cell;
-          state_is = ap (λ (c : CellWord). c.state) same;
-          other = λ bare stands. apart (c.cell.word
+          state_is = shows.state;
+          other = λ bare stands. apart (word stands
               ∙ ((λ i. word_of (c.number i) (stands i) (payload_is bare stands i)) ∙ sym x.expects));
           may = c.may;
           since = c.since;
           saw = subst (λ z. Saw object v (facts_missed n g v.facts) z w) m.1 m.0;
           was = subst (λ z. WasFound primitive (HasCell g) z w) m.1 c.was;
         };
-        payload_is = ap (λ (c : CellWord). c.payload) same;
-        other = λ stands left. apart (c.cell.word ∙ ((λ i. word_of (c.number i) (stands i) (left i)) ∙ sym x.expects));
+        payload_is = shows.payload;
+        other = λ stands left. apart (word stands ∙ ((λ i. word_of (c.number i) (stands i) (left i)) ∙ sym x.expects));
       }
     where
+      -- no exchange goes on from a cell that was cancelled
+      word : c.found.state ≡ row.finds → n ≡ word_of c.found.number c.found.state c.found.payload
+      word stands = word-found n c.found c.cell (λ cancelled.
+          let lower : rank row.finds < rank x.state =
+          (subst (λ z. GoesOn row.finds z row.brings) x.makes is.goes_on).0 in
+          let most = rank-most x.state in
+          let final : rank row.finds ≡ 4 = ap rank (sym stands ∙ cancelled) in absurd (omega arith))
+
       payload_is : IsBare row.finds → c.found.state ≡ row.finds → c.found.payload ≡ payload
       payload_is bare stands = c.cell.bare (subst IsBare (sym stands) bare) ∙ sym (x.bare bare)
 
@@ -117,30 +124,20 @@ module _ {C E S : Type 0} (object : Object E) (primitive : C → Primitive E S) 
           (subst (λ k. Crossed object primitive s row k expected v n w) (row-index v at payload expected new row x) c)
           same
 
-  pub missed-by : (s : QueueStep) (at : Place) (payload expected new n : ℕ) (v w : View E S) (cell : CellWord)
+  pub missed-by : (s : QueueStep) (at : Place) (payload expected new n : ℕ) (v w : View E S)
       → Crosses s v at payload expected new → CrossedBy object primitive s (row_of s) (index_in expected) expected v n w
       → n ≢ expected
-      → unpacked_cell n ≡ Some cell → MissedCellBy object primitive (row_of s) at.index payload v cell w
-  missed-by s at payload expected new n v w cell x c apart is = by (row_of s) x c
+      → MissedCellBy object primitive (row_of s) at.index payload v (cell_found at.index (unpacked_cell n)) w
+  missed-by s at payload expected new n v w x c apart = by (row_of s) (rows s) x c
     where
-      by : (row : StepRow) → CrossesBy row v at payload expected new
+      by : (row : StepRow) → IsRow row → CrossesBy row v at payload expected new
           → CrossedBy object primitive s row (index_in expected) expected v n w
-          → MissedCellBy object primitive row at.index payload v cell w
-      by (at_counter row) x c = absurd x
-      by (at_cell row) x c =
-          missed-row s row at payload expected new n v w cell x
+          → MissedCellBy object primitive row at.index payload v (cell_found at.index (unpacked_cell n)) w
+      by (at_counter row) is x c = absurd x
+      by (at_cell row) is x c =
+          missed-row s row at payload expected new n v w is x
           (subst (λ k. Crossed object primitive s row k expected v n w) (row-index v at payload expected new row x) c)
-          apart is
-
-  -- the word of an exchange is that of a cell
-  pub crossed-some : (s : QueueStep) (k expected n : ℕ) (v w : View E S)
-      → CrossedBy object primitive s (row_of s) k expected v n w
-      → unpacked_cell n ≡ None → ⊥
-  crossed-some s k expected n v w c none = by (row_of s) c
-    where
-      by : (row : StepRow) → CrossedBy object primitive s row k expected v n w → ⊥
-      by (at_counter row) c = c
-      by (at_cell row) c = let both = sym none ∙ unpacks n c.found c.cell in absurd (cc)
+          apart
 
   -- an exchange of a cell that was found so, and from which nobody else goes on, doesn't miss
   pub sure-by : (s : QueueStep) (at : Place) (payload : ℕ) (v w : View E S) (cell : CellWord) → IsSureBy (row_of s)
@@ -216,15 +213,17 @@ pub record After {E S : Type 0} (k left : ℕ) (s : CoreState) (v u : View E S) 
 
 pub after-miss : {C E S : Type 0} (object : Object E) (primitive : C → Primitive E S) (row : CellRow) (k payload : ℕ)
     (s : CoreState) (v u : View E S) (cell : CellWord) → (m : MissedCell object primitive row k payload v cell u)
-    → m.missed.glimpse.state ≡ s → After k cell.payload s v u
-after-miss object primitive row k payload s v u cell m is =
-    let saw = m.missed.saw in record {
+    → m.missed.glimpse.state ≡ s → s ≢ state.Cancelled → After k cell.payload s v u
+after-miss object primitive row k payload s v u cell m is other =
+    let saw = m.missed.saw in
+    let payload_is = m.payload_is (number-found m.missed.word m.missed.glimpse m.missed.cell
+    (λ cancelled. other (sym is ∙ cancelled))) in record {
       doing = ap (λ (f : Facts). f.doing) saw.facts_are;
       has = ap (λ (f : Facts). f.has) saw.facts_are;
       waits = ap (λ (f : Facts). f.waits) saw.facts_are;
       last = ap (λ (f : Facts). f.last) saw.facts_are
-          ∙ (λ i. Some (record { number = m.missed.number i; state = is i; payload = m.payload_is i }));
-      fits = subst (λ z. z < 2 ^ 20) m.payload_is m.missed.cell.fits;
+          ∙ (λ i. Some (record { number = m.missed.number i; state = is i; payload = payload_is i }));
+      fits = subst (λ z. z < 2 ^ 20) payload_is m.missed.cell.fits;
       place = λ at knows. knows-saw object v u _ _ at saw knows;
     }
 

@@ -1,7 +1,9 @@
 -- A poll of a wait is a look at its cell: it was found with its waiter, or served.
-use Rattle.std.proofs.Common.{◌≡◌, ℕ, List, [], ◌∷◌, refl, ap, ◌∙◌, subst}
+use Rattle.std.proofs.Common.{◌≡◌, ℕ, List, refl, ap, ◌∙◌, subst}
 use Rattle.cqs_core.specs.declared.cells.CoreState.{CoreState}
 use Rattle.cqs_core.specs.declared.cells.CoreState.TheVariants as state
+use Rattle.cqs_core.specs.QueueStages as stage
+use Rattle.cqs_core.specs.QueueStages.{MayFind}
 use Rattle.cqs_core.specs.QueueSteps.{looks, pends, grants, its_own}
 use Rattle.cqs_words.specs.declared.cell.CellWord.{CellWord}
 use Rattle.cqs_rule_laws.specs.declared.view.Facts.{Facts}
@@ -19,6 +21,7 @@ use Rattle.cqs_rule_laws.specs.Ruled.{shown_state}
 use Rattle.cqs_rule_laws.specs.Saw.{Saw, WasFound}
 use Rattle.cqs_rule_laws.proofs.CellSteps.{shown-injective}
 use Rattle.cqs_rule_laws.proofs.Calls.{called-by}
+use Rattle.cqs_cell.proofs.Answered.{number-found}
 use Rattle.cqs_cell.specs.Looks.{LooksAt}
 
 module _ {C E S : Type 0} (object : Object E) (primitive : C → Primitive E S) where
@@ -38,9 +41,12 @@ module _ {C E S : Type 0} (object : Object E) (primitive : C → Primitive E S) 
       → LooksAt object primitive polls k v cell w → cell.state ≡ shown_state at → FoundSo at k cell.payload v w
   found-so at k v w cell l is =
       let g = l.looked.glimpse in
-      let state_is : g.state ≡ at = shown-injective g.state at (l.state ∙ is) in
+      let state_is : g.state ≡ at = shown-injective g.state at (l.shows.state ∙ is) in
+      let payload_is : g.payload ≡ cell.payload =
+      l.shows.payload (number-found l.word g l.looked.cell
+      (λ cancelled. absurd (subst (MayFind stage.idle) cancelled l.looked.may))) in
       let same : g ≡ cell_of k at cell.payload =
-      λ i. record { number = l.looked.number i; state = state_is i; payload = l.payload i } in
+      λ i. record { number = l.looked.number i; state = state_is i; payload = payload_is i } in
       record {
         word = l.word;
         cell = subst (FoundCell l.word) same l.looked.cell;

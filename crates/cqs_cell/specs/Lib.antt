@@ -1,3 +1,4 @@
+pub mod Found
 pub mod Transitions
 pub mod Crossings
 pub mod Looks

@@ -5,7 +5,7 @@ use Rattle.cqs_core.specs.QueueStages.{MayFind}
 use Rattle.cqs_core.specs.QueueSteps.{QueueStep, row_of, CellRow, StepRow, at_counter, at_cell, payload_told, settles, settles_owing, refuses, refuses_value}
 use Rattle.cqs_words.specs.declared.cell.CellState.{CellState}
 use Rattle.cqs_words.specs.declared.cell.CellWord.{CellWord}
-use Rattle.cqs_words.specs.Cell.{unpacked_cell}
+use Rattle.cqs_words.specs.Cell.{unpacked_cell, index_in}
 use Rattle.cqs_rule_laws.specs.declared.client.ClientWords.{Ghosts}
 use Rattle.cqs_rule.specs.declared.queue.Pass.{Pass}
 use Rattle.cqs_rule_laws.specs.declared.view.Facts.{Facts}
@@ -17,6 +17,7 @@ use Rattle.cqs_rule_laws.specs.Exchanges.{FoundCell, SinceLast, HasCell}
 use Rattle.cqs_rule_laws.specs.Facts.{facts_worked, facts_missed}
 use Rattle.cqs_rule_laws.specs.Object.{Object, Primitive}
 use Rattle.cqs_rule.specs.Passes.{pass_view}
+use Rattle.cqs_cell.specs.Found.{cell_found}
 use Rattle.cqs_rule_laws.specs.Ruled.{shown_state}
 use Rattle.cqs_rule_laws.specs.Saw.{Saw, WasFound}
 
@@ -65,7 +66,8 @@ module _ {C E S : Type 0} (object : Object E) (primitive : C → Primitive E S) 
   pub record MissedCell (row : CellRow) (k payload : ℕ) (v : View E S) (cell : CellWord)
       (w : View E S) : Type 0 where
     pub missed : Missed row k v cell.state w
-    pub payload_is : missed.glimpse.payload ≡ cell.payload
+    pub payload_is : index_in missed.word ≡ missed.glimpse.number
+        → missed.glimpse.payload ≡ cell.payload
     pub other : missed.glimpse.state ≡ row.finds → missed.glimpse.payload ≢ payload
 
   abbrev pub MissedCellBy : StepRow → ℕ → ℕ → View E S → CellWord → View E S → Type 0
@@ -79,10 +81,6 @@ module _ {C E S : Type 0} (object : Object E) (primitive : C → Primitive E S) 
   abbrev pub MissedBy : StepRow → ℕ → View E S → CellState → View E S → Type 0
   MissedBy (at_counter row) k v found w = ⊥
   MissedBy (at_cell row) k v found w = Missed row k v found w
-
--- the word is that of a cell
-abbrev pub IsCellWord : ℕ → Type 0
-IsCellWord word = unpacked_cell word ≡ None → ⊥
 
 module _ {C S E : Type 0} {g : Ghosts C S E} where
   -- the step was made at the cell of the number k, which had this payload, as the first and only
@@ -107,10 +105,10 @@ module _ {C S E : Type 0} {g : Ghosts C S E} where
       MissedCellBy g.object g.primitive (row_of s) k payload (pass_view p) cell
       (pass_view p')
 
-  -- the same by the word that was found, which is that of this cell
+  -- the same by the word that was found
   abbrev pub HasMissedWord : QueueStep → ℕ → ℕ → ℕ → Pass C S E g → Pass C S E g → Type 0
   HasMissedWord s k payload word p p' =
-      (cell : CellWord) → unpacked_cell word ≡ Some cell → HasMissedCell s k payload cell p p'
+      HasMissedCell s k payload (cell_found k (unpacked_cell word)) p p'
 
   -- How a canceller ended its leaving: by what was decided, and with the payload that a resume had
   -- left there or none.

@@ -12,11 +12,12 @@ ghost use Rattle.cqs_cell.specs.Crossings.{
   IsLast,
   IsSure,
 };
-ghost use Rattle.cqs_cell.specs.Transitions.{HasMade, HasMissedCell, HasMissedWord, IsCellWord};
+ghost use Rattle.cqs_cell.specs.Transitions.{HasMade, HasMissedCell, HasMissedWord};
 ghost use Rattle.cqs_rule_laws.specs.Manner.{Suits};
 ghost use Rattle.cqs_rule.specs.Passes.{pass_view, client_of, IsOf};
 ghost use Rattle.cqs_rule_laws.specs.Placed.{KnowsPlace};
 
+use crate::found::cell_found;
 use cqs_rule::{ClientWords, Kind, Pass, Place, Queue};
 use cqs_words::{CellState, CellWord};
 
@@ -62,10 +63,7 @@ pub(crate) fn cross<C: ClientWords, K: Kind>(
     };
     match exchange::<C, K>(queue, pass, at, payload, expected.pack(), new.pack()) {
         Ok(()) => Ok(()),
-        Err(word) => match CellWord::unpack(word) {
-            Some(cell) => Err(cell),
-            None => unreachable!(),
-        },
+        Err(word) => Err(cell_found(word, index)),
     }
 }
 
@@ -120,7 +118,6 @@ fn exchange<C: ClientWords, K: Kind>(
     ensures made { IfOk result (λ _. HasMade K.step at.index payload pass.old pass.new) }
     ensures missed { IfErr result
         (λ word. HasMissedWord K.step at.index payload word pass.old pass.new) }
-    ensures word { IfErr result IsCellWord }
 {
     let _payload = payload;
     let found = queue.swap_table::<K>(pass, at.word, expected, new);

@@ -22,6 +22,7 @@
 mod at_once;
 mod cancelling;
 mod cross;
+mod found;
 mod leaving;
 mod looks;
 mod settling;
@@ -31,6 +32,6 @@ mod values;
 pub use at_once::leave_at_once;
 pub use cancelling::{begin_cancel, settle};
 pub use leaving::{leave_line, settle_left};
-pub use looks::{look, look_for_grant};
+pub use looks::{look, look_for_grant, watch};
 pub use transitions::{delegate, install, leave_value, serve};
 pub use values::take_value;

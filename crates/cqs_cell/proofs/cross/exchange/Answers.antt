@@ -1,5 +1,5 @@
 use Rattle.cqs_cell.proofs.Crossing.{crossing-of}
-use Rattle.cqs_cell.proofs.Made.{made-by, missed-by, crossed-some}
+use Rattle.cqs_cell.proofs.Made.{made-by, missed-by}
 use Rattle.cqs_cell.proofs.cross.exchange.Goals as goal
 
 pub swap_table-found-requires-clause-cell : goal.swap_table-found-requires-clause-cell
@@ -12,12 +12,7 @@ returns-then-found-expected-clause-made g c =
     c.if-found-expected.true
 
 pub returns-else-found-expected-clause-missed : goal.returns-else-found-expected-clause-missed
-returns-else-found-expected-clause-missed g c cell is =
+returns-else-found-expected-clause-missed g c =
     let C = g.C.ClientWords in
-    missed-by C.object C.primitive g.K.Kind.step _ _ _ _ _ _ _ cell c.requires.cell
-    c.swap_table-found.ensures.crossed c.if-found-expected.false is
-
-pub returns-else-found-expected-clause-word : goal.returns-else-found-expected-clause-word
-returns-else-found-expected-clause-word g c none =
-    let C = g.C.ClientWords in
-    crossed-some C.object C.primitive g.K.Kind.step _ _ _ _ _ c.swap_table-found.ensures.crossed none
+    missed-by C.object C.primitive g.K.Kind.step _ _ _ _ _ _ _ c.requires.cell
+    c.swap_table-found.ensures.crossed c.if-found-expected.false

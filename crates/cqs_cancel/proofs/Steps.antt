@@ -39,6 +39,7 @@ use Rattle.cqs_rule_laws.specs.Ruled.{word_of}
 use Rattle.cqs_rule_laws.specs.Saw.{Saw, WasShown, WasFound, WasSo}
 use Rattle.cqs_rule_laws.proofs.Calls.{called-by, called-then, called-and, saw-then}
 use Rattle.cqs_rule.proofs.Places.{knows-saw, knows-at}
+use Rattle.cqs_cell.proofs.Answered.{number-found, word-found}
 use Rattle.cqs_cell.specs.Looks.{LooksAt}
 use Rattle.cqs_cell.specs.Transitions.{facts_since, Made, MadeBy, HasMade, Missed, MissedBy, HasMissed, HasSettled}
 use Rattle.cqs_cancel.specs.declared.cancelling.Left.{Left}
@@ -81,6 +82,9 @@ none-after state.Refused is more = is
 pub no-more : {A : Type 0} (l : List A) → length l ≤ 0 → l ≡ []
 no-more [] few = refl
 no-more (x ∷ xs) few = absurd (omega arith)
+
+resumed-only : state.Resumed ≡ state.Cancelled → ⊥
+resumed-only e = cc
 
 module _ {C E S : Type 0} (object : Object E) (primitive : C → Primitive E S) where
   -- the client has decided, once it was asked
@@ -308,14 +312,18 @@ module _ {C E S : Type 0} (object : Object E) (primitive : C → Primitive E S) 
       (λ (more : rank g.state < rank h.state).
       absurd (none-after h.state l.looked.may (subst (λ x. rank x < rank h.state) was_served more)))
       (since.since (l.looked.number ∙ sym m.number)) in
-      let payload_is : h.payload ≡ cell.payload = l.payload in
+      let resumed : h.state ≡ state.Resumed = same.0 ∙ was_served in
+      let payload_is : h.payload ≡ cell.payload =
+      l.shows.payload (number-found l.word h l.looked.cell (λ cancelled. resumed-only (sym resumed ∙ cancelled))) in
       let is : h ≡ served_glimpse k cell.payload =
       λ i. record { number = l.looked.number i; state = (same.0 ∙ was_served) i; payload = payload_is i } in
       let first_is : g ≡ served_glimpse k cell.payload =
       λ i. record { number = m.number i; state = was_served i; payload = (sym same.1 ∙ payload_is) i } in
       let word_is : m.word ≡ l.word =
-      m.cell.word ∙ ((λ i. word_of (first_is i).number (first_is i).state (first_is i).payload)
-      ∙ ((λ i. word_of (sym is i).number (sym is i).state (sym is i).payload) ∙ sym l.looked.cell.word)) in
+      word-found m.word g m.cell (λ cancelled. resumed-only (sym was_served ∙ cancelled))
+      ∙ ((λ i. word_of (first_is i).number (first_is i).state (first_is i).payload)
+      ∙ ((λ i. word_of (sym is i).number (sym is i).state (sym is i).payload)
+      ∙ sym (word-found l.word h l.looked.cell (λ cancelled. resumed-only (sym resumed ∙ cancelled))))) in
       let before : Facts = facts_tried (Cell k l.word ∷ []) v.facts in
       let es : List E = object.entries (looks late) v.number k cell.payload in
       let entries_are : look_entries object primitive (event_of cancels h.state) u.number h u.facts ≡ es =

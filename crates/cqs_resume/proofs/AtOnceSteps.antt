@@ -1,5 +1,5 @@
 -- One number of a resumption where waits leave at once: what its load of a hole is, and that it finds one.
-use Rattle.std.proofs.Common.{◌≡◌, ℕ, ◌<◌, ◌≤◌, List, [], Option, Some, sym, refl, ap, ◌∙◌, subst, ⊎_elim, arith}
+use Rattle.std.proofs.Common.{true, ◌≡◌, ℕ, ◌<◌, ◌≤◌, List, [], Option, Some, sym, refl, ap, ◌∙◌, subst, ⊎_elim, arith}
 use Rattle.cqs_core.specs.declared.cells.CoreState.{CoreState}
 use Rattle.cqs_core.specs.declared.cells.CoreState.TheVariants as state
 use Rattle.cqs_core.specs.declared.doings.Doing.TheVariants as doing
@@ -23,12 +23,17 @@ use Rattle.cqs_rule_laws.specs.Saw.{Saw, WasFound}
 use Rattle.cqs_rule_laws.proofs.CellSteps.{shown-injective}
 use Rattle.cqs_cell.specs.Looks.{LooksAt}
 use Rattle.cqs_resume.specs.AtOnce.{IsPlain, ShowsPlain}
+use Rattle.cqs_rule_laws.specs.Settling.{duties_then}
 use Rattle.cqs_resume.specs.Meets.{cell_of}
 use Rattle.cqs_resume.proofs.OneNumber.{Tried, Worked, WorkedBy, IsEndBy, idles}
 
 -- a hole ends the resumption
 pub end-missed : (gains : Gains) (k : ℕ) → IsEndBy gains (row_of ends_missed) state.Cancelled doing.Idle [] k
-end-missed gains k = record { finds = refl; told = refl; facts = λ n payload f. idles f k n }
+end-missed gains k = record {
+  finds = refl;
+  told = refl;
+  facts = λ n payload f. idles f (duties_then true k f.duties) k n;
+}
 
 -- what an open ticket's cell is that was tried as neither empty nor with its waiter
 tried-rank : (x : CoreState) → IsUnended x → (shown_state x ≡ shown.Empty → ⊥) → (shown_state x ≡ shown.Waiter → ⊥)
@@ -82,7 +87,7 @@ module _ {C E S : Type 0} (object : Object E) (primitive : C → Primitive E S) 
       (λ (more : rank t.glimpse.state < rank g.state). omega arith)
       (since.since (l.looked.number ∙ sym t.number)) in
       is-hole g.state l.looked.may (plain-found opening g _ w plain same l.looked.was) farther
-      (λ e. cancelled (sym l.state ∙ e))
+      (λ e. cancelled (sym l.shows.state ∙ e))
 
   -- the load of a hole is the step that ends there
   worked-at : (row : CellRow) (k : ℕ) (cell : CellWord) (u w : View E S) → row_of ends_missed ≡ at_cell row
@@ -116,4 +121,4 @@ module _ {C E S : Type 0} (object : Object E) (primitive : C → Primitive E S) 
   pub worked-missed : (k : ℕ) (cell : CellWord) (u w : View E S) → (l : LooksAt object primitive misses k u cell w)
       → cell.state ≡ shown.Cancelled → WorkedBy object primitive ends_missed k u w
   worked-missed k cell u w l is =
-      worked-at _ k cell u w refl l (shown-injective l.looked.glimpse.state state.Cancelled (l.state ∙ is)) refl
+      worked-at _ k cell u w refl l (shown-injective l.looked.glimpse.state state.Cancelled (l.shows.state ∙ is)) refl

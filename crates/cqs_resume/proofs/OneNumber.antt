@@ -1,5 +1,5 @@
 -- One number of a resume: its cell is looked for, and tried until a step is made there.
-use Rattle.std.proofs.Common.{◌≡◌, ◌≢◌, ℕ, suc, ◌+◌, ◌-◌, ◌<◌, ◌≤◌, List, [], ◌∷◌, ◌++◌, length, Option, Some, None, min, sym, refl, ap, ◌∙◌, subst, inl, ⊎_elim, append_assoc, length-append, arith}
+use Rattle.std.proofs.Common.{true, ◌≡◌, ◌≢◌, ℕ, suc, ◌+◌, ◌-◌, ◌<◌, ◌≤◌, List, [], ◌∷◌, ◌++◌, length, Option, Some, None, min, sym, refl, ap, ◌∙◌, subst, inl, ⊎_elim, append_assoc, length-append, arith}
 use Rattle.std.proofs.lemmas.List.{append-nil}
 use Rattle.cqs_core.specs.declared.cells.CoreState.{CoreState}
 use Rattle.cqs_core.specs.declared.cells.CoreState.TheVariants as state
@@ -34,6 +34,8 @@ use Rattle.cqs_rule.proofs.Places.{knows-saw}
 use Rattle.cqs_cell.specs.Looks.{LooksAt}
 use Rattle.cqs_cell.specs.Transitions.{facts_since, Made, MadeBy, Missed}
 use Rattle.cqs_find.specs.Finds.{longest_search, facts_searched, Searched}
+use Rattle.cqs_rule_laws.specs.Settling.{duties_then, settles_row}
+use Rattle.cqs_resume.specs.Counting.{duties_by}
 use Rattle.cqs_resume.specs.Meets.{facts_met, cell_of, Met}
 
 -- a pass at these facts that found these words and heads besides, and another glimpse
@@ -46,17 +48,31 @@ pub record IsEnd (gains : Gains) (row : CellRow) (state : CoreState) (at : Doing
   pub finds : row.finds ≡ state
   pub told : row.gain ≡ nothing
   pub facts : (n payload : ℕ) (f : Facts) → facts_worked gains row k n payload f
-      ≡ record f { doing = at; last = None; passed = f.passed ++ over; found = f.found ++ Cell k n ∷ [] }
+      ≡ record f {
+        doing = at;
+        last = None;
+        passed = f.passed ++ over;
+        duties = duties_then (settles_row row) k f.duties;
+        found = f.found ++ Cell k n ∷ [];
+      }
 
 -- the exchanges of a resume end it, and so does a refused cell
-pub idles : (f : Facts) (k n : ℕ)
-    → record f { doing = doing.Idle; last = None; passed = f.passed; found = f.found ++ Cell k n ∷ [] }
-    ≡ record f { doing = doing.Idle; last = None; passed = f.passed ++ []; found = f.found ++ Cell k n ∷ [] }
-idles f k n =
+pub idles : (f : Facts) (duties : List ℕ) (k n : ℕ)
+    → record f { doing = doing.Idle; last = None; passed = f.passed; duties = duties; found = f.found ++ Cell k n ∷ [] }
+    ≡ record f {
+      doing = doing.Idle;
+      last = None;
+      passed = f.passed ++ [];
+      duties = duties;
+      found = f.found ++ Cell k n
+          ∷ [];
+    }
+idles f duties k n =
     λ i. record f {
       doing = doing.Idle;
       last = None;
       passed = sym (append-nil f.passed) i;
+      duties = duties;
       found = f.found ++ Cell k n ∷ [];
     }
 
@@ -65,16 +81,20 @@ IsEndBy gains (at_counter row) state at over k = ⊥
 IsEndBy gains (at_cell row) state at over k = IsEnd gains row state at over k
 
 pub end-serves : (gains : Gains) (k : ℕ) → IsEndBy gains (row_of serves) state.Waiter doing.Idle [] k
-end-serves gains k = record { finds = refl; told = refl; facts = λ n payload f. idles f k n }
+end-serves gains k = record { finds = refl; told = refl; facts = λ n payload f. idles f f.duties k n }
 
 pub end-leaves : (gains : Gains) (k : ℕ) → IsEndBy gains (row_of leaves) state.Empty doing.Idle [] k
-end-leaves gains k = record { finds = refl; told = refl; facts = λ n payload f. idles f k n }
+end-leaves gains k = record { finds = refl; told = refl; facts = λ n payload f. idles f f.duties k n }
 
 pub end-delegates : (gains : Gains) (k : ℕ) → IsEndBy gains (row_of delegates) state.Cancelling doing.Idle [] k
-end-delegates gains k = record { finds = refl; told = refl; facts = λ n payload f. idles f k n }
+end-delegates gains k = record { finds = refl; told = refl; facts = λ n payload f. idles f f.duties k n }
 
 pub end-refused : (gains : Gains) (k : ℕ) → IsEndBy gains (row_of ends_refused) state.Refused doing.Idle [] k
-end-refused gains k = record { finds = refl; told = refl; facts = λ n payload f. idles f k n }
+end-refused gains k = record {
+  finds = refl;
+  told = refl;
+  facts = λ n payload f. idles f (duties_then true k f.duties) k n;
+}
 
 pub end-over : (gains : Gains) (k : ℕ) → IsEndBy gains (row_of passes_over) state.Cancelled doing.Owes (k ∷ []) k
 end-over gains k = record { finds = refl; told = refl; facts = λ n payload f. refl }
@@ -343,13 +363,13 @@ module _ {C E S : Type 0} (object : Object E) (primitive : C → Primitive E S) 
       → cell.state ≡ shown.Cancelled → WorkedBy passes_over k u w
   worked-over k cell u w l is =
       worked-looked passes_over _ k cell u w refl l
-      (shown-injective l.looked.glimpse.state state.Cancelled (l.state ∙ is)) refl
+      (shown-injective l.looked.glimpse.state state.Cancelled (l.shows.state ∙ is)) refl
 
   pub worked-refused : (k : ℕ) (cell : CellWord) (u w : View E S) → (l : LooksAt object primitive meets k u cell w)
       → cell.state ≡ shown.Refused → WorkedBy ends_refused k u w
   worked-refused k cell u w l is =
       worked-looked ends_refused _ k cell u w refl l
-      (shown-injective l.looked.glimpse.state state.Refused (l.state ∙ is)) refl
+      (shown-injective l.looked.glimpse.state state.Refused (l.shows.state ∙ is)) refl
 
   -- a look at a cell that was found settled finds it settled
   pub looks-settled : (k : ℕ) (state : CellState) (cell : CellWord) (v u w : View E S) → Tried k state v u
@@ -368,15 +388,15 @@ module _ {C E S : Type 0} (object : Object E) (primitive : C → Primitive E S) 
       (λ (more : rank t.glimpse.state < rank g.state). absurd (omega arith))
       (since.since (l.looked.number ∙ sym t.number)) in
       let is : rank g.state ≡ 4 = ap rank same ∙ top in
-      none-other g.state l.looked.may is (λ e. cancelled (sym l.state ∙ e)) (λ e. refused (sym l.state ∙ e))
+      none-other g.state l.looked.may is (λ e. cancelled (sym l.shows.state ∙ e)) (λ e. refused (sym l.shows.state ∙ e))
 
   -- the step was made, and the number is met
   met-of : (s : QueueStep) (row : CellRow) (state : CoreState) (at : Doing) (over : List ℕ) (tries k payload : ℕ)
-      (v u w : View E S)
+      (v u w : View E S) → row_of s ≡ at_cell row
       → IsEnd object.gains row state at over k → tries ≤ 4 → v.facts.has.payload ≡ payload → OnWay tries v u
       → Worked s row k u w
       → Met object primitive s state at over payload k v w
-  met-of s row state at over tries k payload v u w ends low owed way d =
+  met-of s row state at over tries k payload v u w is ends low owed way d =
       let f : Facts = v.facts in
       let u_is : u.facts ≡ facts_on_way way.found way.heads way.last f = way.saw.facts_are in
       let here : List Sighting = Cell k d.word ∷ [] in
@@ -386,17 +406,18 @@ module _ {C E S : Type 0} (object : Object E) (primitive : C → Primitive E S) 
       ≡ object.entries s v.number k payload =
       λ i. object.entries s (way.saw.same.number i) k (told i) in
       let facts : facts_worked object.gains row k d.word (payload_told row.gain d.left u.facts.has.payload) u.facts
-      ≡ facts_met at over (way.found ++ here) way.heads f =
+      ≡ facts_met s k at over (way.found ++ here) way.heads f =
       ends.facts d.word (payload_told row.gain d.left u.facts.has.payload) u.facts
       ∙ ((λ i. record (u_is i) {
         doing = at;
         last = None;
         passed = (u_is i).passed ++ over;
+        duties = duties_then (settles_row row) k (u_is i).duties;
         found = (u_is i).found ++ here;
       })
-      ∙ (λ i. record (facts_met at over (way.found ++ here) way.heads f) {
-        found =
-            append_assoc f.found way.found here i;
+      ∙ (λ i. record (facts_met s k at over (way.found ++ here) way.heads f) {
+        duties = duties_by (sym is i) k f.duties;
+        found = append_assoc f.found way.found here i;
       })) in
       let few = way.few in
       record {
@@ -419,12 +440,12 @@ module _ {C E S : Type 0} (object : Object E) (primitive : C → Primitive E S) 
       → OnWay tries v u
       → WorkedBy s j u w → Met object primitive s state at (over k) payload k v w
   met-by s state at over tries j k payload v u w same ends low owed way d =
-      subst (λ z. Met object primitive s state at (over z) payload z v w) same (by (row_of s) ends d)
+      subst (λ z. Met object primitive s state at (over z) payload z v w) same (by (row_of s) refl ends d)
     where
-      by : (row : StepRow) → IsEndBy object.gains row state at (over j) j → WorkedAs s row j u w
+      by : (row : StepRow) → row_of s ≡ row → IsEndBy object.gains row state at (over j) j → WorkedAs s row j u w
           → Met object primitive s state at (over j) payload j v w
-      by (at_counter row) ends d = absurd d
-      by (at_cell row) ends d = met-of s row state at (over j) tries j payload v u w ends low owed way d
+      by (at_counter row) is ends d = absurd d
+      by (at_cell row) is ends d = met-of s row state at (over j) tries j payload v u w is ends low owed way d
 
   -- the client is told of the resumption that ended where its waiter was refused
   pub ended-refused : (payload k : ℕ) (v w : View E S) → v.facts.has.payload ≡ payload

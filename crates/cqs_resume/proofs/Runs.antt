@@ -27,6 +27,7 @@ use Rattle.cqs_rule_laws.proofs.Lists.{has_left, has_right}
 use Rattle.cqs_resume.specs.declared.resumed.Resumed.{Resumed}
 use Rattle.cqs_resume.specs.declared.resumed.Resumed.TheVariants.{Served, Left, Refused, Under}
 use Rattle.cqs_resume.specs.Rounds.{Round, cell_in, IsFoundIn, IsOpenedWith, AreDrawn, numbers, one_if, round_seen, all_seen, all_heads, facts_after_rounds, round_entries, over_entries}
+use Rattle.cqs_resume.specs.Counting.{duties_after}
 use Rattle.cqs_resume.specs.Meets.{facts_met, cell_of, Met, Meets}
 use Rattle.cqs_resume.specs.Resumes.{WasSo, IsOver, Ended, Stopped, Resumes, IsFurther}
 
@@ -36,32 +37,35 @@ opened_by true k = None
 opened_by false k = Some k
 
 -- a pass at these facts after one round that left it so
-abbrev pub facts_round : Doing → List ℕ → Round → Facts → Facts
-facts_round at over r f = record f {
+abbrev pub facts_round : QueueStep → ℕ → Doing → List ℕ → Round → Facts → Facts
+facts_round s k at over r f = record f {
   doing = at;
   last = None;
   reached = if r.drawn then r.number else f.reached;
   passed = f.passed ++ over;
+  duties = duties_after s k f.duties;
   heads = f.heads ++ r.heads;
   found = f.found ++ round_seen r;
 }
 
 -- the facts after one round, and after one round and then others
-facts-one : (at : Doing) (over : List ℕ) (r : Round) (f : Facts)
-    → facts_round at over r f ≡ facts_after_rounds at over (r ∷ []) f
-facts-one at over r f = λ i. record (facts_round at over r f) {
+facts-one : (s : QueueStep) (k : ℕ) (at : Doing) (over : List ℕ) (r : Round) (f : Facts)
+    → facts_round s k at over r f ≡ facts_after_rounds s k at over (r ∷ []) f
+facts-one s k at over r f = λ i. record (facts_round s k at over r f) {
   heads = f.heads ++ sym (append-nil r.heads) i;
   found = f.found ++ sym (append-nil (round_seen r)) i;
 }
 
-facts-then : (at : Doing) (ns : List ℕ) (rest : List Round) (r : Round) (j : ℕ) (f : Facts) → r.number ≡ j
-    → facts_after_rounds at ns rest (facts_round doing.Owes (j ∷ []) r f)
-    ≡ facts_after_rounds at (r.number ∷ ns) (r ∷ rest) f
-facts-then at ns rest r j f is = λ i. record (facts_after_rounds at ns rest (facts_round doing.Owes (j ∷ []) r f)) {
-  passed = (append_assoc f.passed (j ∷ []) ns ∙ ap (λ z. f.passed ++ (z ∷ ns)) (sym is)) i;
-  heads = append_assoc f.heads r.heads (all_heads rest) i;
-  found = append_assoc f.found (round_seen r) (all_seen rest) i;
-}
+facts-then : (s : QueueStep) (k : ℕ) (at : Doing) (ns : List ℕ) (rest : List Round) (r : Round) (j : ℕ) (f : Facts)
+    → r.number ≡ j
+    → facts_after_rounds s k at ns rest (facts_round passes_over j doing.Owes (j ∷ []) r f)
+    ≡ facts_after_rounds s k at (r.number ∷ ns) (r ∷ rest) f
+facts-then s k at ns rest r j f is =
+    λ i. record (facts_after_rounds s k at ns rest (facts_round passes_over j doing.Owes (j ∷ []) r f)) {
+      passed = (append_assoc f.passed (j ∷ []) ns ∙ ap (λ z. f.passed ++ (z ∷ ns)) (sym is)) i;
+      heads = append_assoc f.heads r.heads (all_heads rest) i;
+      found = append_assoc f.found (round_seen r) (all_seen rest) i;
+    }
 
 -- a number that was drawn comes after those that the pass drew before
 abbrev pub IsNext : Bool → ℕ → Facts → Type 0
@@ -78,7 +82,7 @@ module _ {C E S : Type 0} (object : Object E) (primitive : C → Primitive E S) 
     pub found : IsFoundIn state round
     pub was : WasFound primitive (HasCell (cell_in state round)) (object.entries s v.number k payload) w
     pub called : Called object v (round_entries object v.number payload s round) (object.entries s v.number k payload) w
-    pub facts_are : w.facts ≡ facts_round at over round v.facts
+    pub facts_are : w.facts ≡ facts_round s k at over round v.facts
 
   -- the number was drawn, and then met
   pub went-drawn : (s : QueueStep) (state : CoreState) (at : Doing) (over : List ℕ) (payload k : ℕ) (v x w : View E S)
@@ -115,8 +119,8 @@ module _ {C E S : Type 0} (object : Object E) (primitive : C → Primitive E S) 
         was = subst (λ (z : List E). WasFound primitive (HasCell (cell_of k state m.left)) z w) last m.was;
         called = subst (λ (z : ℕ × List E). Called object v (object.entries reaches v.number k z.0 ++ z.1) z.1 w)
             (λ i. (owed i, last i)) called;
-        facts_are = m.saw.facts_are ∙ ((λ i. facts_met at over seen m.heads (x_is i))
-            ∙ (λ i. record (facts_met at over seen m.heads drawn) {
+        facts_are = m.saw.facts_are ∙ ((λ i. facts_met s k at over seen m.heads (x_is i))
+            ∙ (λ i. record (facts_met s k at over seen m.heads drawn) {
               found =
                   append_assoc f.found (Word resumes_place k ∷ []) seen i;
             }));
@@ -170,7 +174,7 @@ module _ {C E S : Type 0} (object : Object E) (primitive : C → Primitive E S) 
     found = t.found;
     was = t.was;
     called = t.called;
-    facts_are = t.facts_are ∙ facts-one doing.Idle [] t.round v.facts;
+    facts_are = t.facts_are ∙ facts-one s k doing.Idle [] t.round v.facts;
     reached = never-falls drawn s state doing.Idle [] payload k v w t next;
   }
     where
@@ -233,8 +237,8 @@ module _ {C E S : Type 0} (object : Object E) (primitive : C → Primitive E S) 
               number i,
             ))
             (called-and object v u w first _ (own u.number ++ end u.number) _ t.called e.called);
-        facts_are = e.facts_are ∙ (ap (facts_after_rounds doing.Idle (numbers e.over) rest) t.facts_are
-            ∙ facts-then doing.Idle (numbers e.over) rest t.round j v.facts t.number);
+        facts_are = e.facts_are ∙ (ap (facts_after_rounds s k doing.Idle (numbers e.over) rest) t.facts_are
+            ∙ facts-then s k doing.Idle (numbers e.over) rest t.round j v.facts t.number);
         reached =
             let first = never-falls drawn passes_over state.Cancelled doing.Owes (j ∷ []) payload j v u t next in
             let later = e.reached in
@@ -303,8 +307,10 @@ module _ {C E S : Type 0} (object : Object E) (primitive : C → Primitive E S) 
         called = subst (λ z. Called object v (first ++ own z)
             (object.entries passes_over z (under_reached under) payload) w) number
             (called-and object v u w first _ (own u.number) _ t.called e.called);
-        facts_are = e.facts_are ∙ (ap (facts_after_rounds doing.Owes (numbers e.over) e.over) t.facts_are
-            ∙ facts-then doing.Owes (numbers e.over) e.over t.round j v.facts t.number);
+        facts_are = e.facts_are ∙ (ap (facts_after_rounds passes_over (under_reached under) doing.Owes (numbers e.over)
+            e.over) t.facts_are
+            ∙ facts-then passes_over (under_reached under) doing.Owes (numbers e.over) e.over t.round j v.facts
+            t.number);
         payload_is = e.payload_is;
         ticket_is = e.ticket_is;
         has = e.has;
@@ -333,8 +339,10 @@ module _ {C E S : Type 0} (object : Object E) (primitive : C → Primitive E S) 
         called = subst (λ (z : List E × ℕ × View E S). Called object v z.0
             (object.entries passes_over v.number z.1 payload) z.2)
             (λ i. (sym (append-nil first) i, sym reached i, sym same i)) t.called;
-        facts_are = ap (λ (z : View E S). z.facts) same ∙ (t.facts_are ∙ (facts-one doing.Owes (j ∷ []) t.round v.facts
-            ∙ ap (λ z. facts_after_rounds doing.Owes (z ∷ []) (t.round ∷ []) v.facts) (sym t.number)));
+        facts_are = ap (λ (z : View E S). z.facts) same ∙ (t.facts_are ∙ (facts-one passes_over j doing.Owes (j ∷ [])
+            t.round v.facts
+            ∙ ap (λ z. facts_after_rounds passes_over (under_reached under) doing.Owes (z ∷ []) (t.round ∷ []) v.facts)
+            (sym t.number)));
         payload_is = owed;
         ticket_is = ticket;
         has = has;

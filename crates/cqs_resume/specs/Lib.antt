@@ -1,3 +1,4 @@
+pub mod Counting
 pub mod Rounds
 pub mod Meets
 pub mod Resumes

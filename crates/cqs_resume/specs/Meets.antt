@@ -17,15 +17,18 @@ use Rattle.cqs_rule_laws.specs.Object.{Object, Primitive}
 use Rattle.cqs_rule.specs.Passes.{pass_view}
 use Rattle.cqs_rule_laws.specs.Saw.{Saw, WasFound}
 use Rattle.cqs_find.specs.Finds.{longest_search}
+use Rattle.cqs_resume.specs.Counting.{duties_after}
 use Rattle.cqs_resume.specs.declared.resumed.Resumed.{Resumed}
 use Rattle.cqs_resume.specs.declared.resumed.Resumed.TheVariants.{Served, Left, Refused, Under}
 
--- the pass is at this, has passed over these numbers besides, and found these words and heads
-abbrev pub facts_met : Doing → List ℕ → List Sighting → List (ℕ × ℕ) → Facts → Facts
-facts_met at over found heads f = record f {
+-- the pass is at this after the step s at the number k, has passed over these numbers besides, and
+-- found these words and heads
+abbrev pub facts_met : QueueStep → ℕ → Doing → List ℕ → List Sighting → List (ℕ × ℕ) → Facts → Facts
+facts_met s k at over found heads f = record f {
   doing = at;
   last = None;
   passed = f.passed ++ over;
+  duties = duties_after s k f.duties;
   heads = f.heads ++ heads;
   found = f.found ++ found;
 }
@@ -46,7 +49,7 @@ module _ {C E S : Type 0} (object : Object E) (primitive : C → Primitive E S) 
     pub word : ℕ
     pub left : ℕ
     pub cell : FoundCell word (cell_of k state left)
-    pub saw : Saw object v (facts_met at over (tried ++ Cell k word ∷ []) heads v.facts)
+    pub saw : Saw object v (facts_met s k at over (tried ++ Cell k word ∷ []) heads v.facts)
         (object.entries s v.number k payload) w
     pub was : WasFound primitive (HasCell (cell_of k state left))
         (object.entries s v.number k payload) w

@@ -67,7 +67,7 @@ module _ {C E S : Type 0} (object : Object E) (primitive : C → Primitive E S) 
         last)
         (object.entries s v.number k payload) w
     pub facts_are : w.facts
-        ≡ facts_after_rounds doing.Idle (numbers over) (over ++ last ∷ []) v.facts
+        ≡ facts_after_rounds s k doing.Idle (numbers over) (over ++ last ∷ []) v.facts
     pub reached : v.facts.reached ≤ w.facts.reached
 
   -- It drew `most` numbers and passed over each of them. The pass still owes the resumption, and
@@ -80,7 +80,9 @@ module _ {C E S : Type 0} (object : Object E) (primitive : C → Primitive E S) 
     pub are_over : AreOver primitive w over
     pub called : Called object v (over_entries object v.number payload over)
         (object.entries passes_over v.number (under_reached under) payload) w
-    pub facts_are : w.facts ≡ facts_after_rounds doing.Owes (numbers over) over v.facts
+    pub facts_are : w.facts
+        ≡ facts_after_rounds passes_over (under_reached under) doing.Owes (numbers over) over
+        v.facts
     pub payload_is : under_payload under ≡ payload
     pub ticket_is : under_ticket under ≡ None
     pub has : HasUnder w.facts under

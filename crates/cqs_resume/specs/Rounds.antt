@@ -11,6 +11,7 @@ use Rattle.cqs_rule_laws.specs.Exchanges.{FoundCell}
 use Rattle.cqs_rule_laws.specs.Layout.{resumes_place}
 use Rattle.cqs_rule_laws.specs.Object.{Object}
 use Rattle.cqs_find.specs.Finds.{longest_search}
+use Rattle.cqs_resume.specs.Counting.{duties_after}
 
 -- One number of a resumption: it is drawn, and then its cell is tried until a step is made there.
 pub record Round : Type 0 where
@@ -80,14 +81,15 @@ IsOpenedWith None rounds = AreDrawn rounds
 IsOpenedWith (Some k) [] = ⊥
 IsOpenedWith (Some k) (r ∷ rs) = (r.number ≡ k) × (r.drawn ≡ false) × AreDrawn rs
 
--- The pass is at this after the rounds, has passed over these numbers, and has all else as it had
--- it.
-abbrev pub facts_after_rounds : Doing → List ℕ → List Round → Facts → Facts
-facts_after_rounds at over rounds f = record f {
+-- The pass is at this after the rounds, of which the last ended by the step s at the number k. It
+-- has passed over these numbers, and has all else as it had it.
+abbrev pub facts_after_rounds : QueueStep → ℕ → Doing → List ℕ → List Round → Facts → Facts
+facts_after_rounds s k at over rounds f = record f {
   doing = at;
   last = None;
   reached = reached_in rounds f.reached;
   passed = f.passed ++ over;
+  duties = duties_after s k f.duties;
   heads = f.heads ++ all_heads rounds;
   found = f.found ++ all_seen rounds;
 }

@@ -57,8 +57,8 @@ module _ {T : Type 0} where
     pub found : (earlier : List Sighting) × (later : List Sighting)
         × (w.facts.found ≡ v.facts.found ++ (earlier ++ Word (client_place 0) word ∷ later))
 
-  -- The steps of a call found the state to be these counts, in this order; and it made no other
-  -- step that finds a word.
+  -- The steps of a call found the state to be these counts, in this order. Nothing else was found
+  -- by them, on a counter or a cell.
   pub record FoundJust (counts : List ℤ) (v w : View Entry T) : Type 0 where
     pub words : List ℕ
     pub are : counts ≡ map count_in words

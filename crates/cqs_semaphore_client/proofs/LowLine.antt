@@ -1,5 +1,5 @@
 -- Where few are in line, the state of a semaphore is far above the lowest.
-use Rattle.std.proofs.Common.{◌≡◌, ℕ, ◌+◌, ◌<◌, ◌≤◌, length, arith, ℤ, pos, negsuc, ◌<ℤ◌}
+use Rattle.std.proofs.Common.{◌≡◌, ◌+◌, ◌<◌, ◌≤◌, length, arith, ℤ, pos, negsuc, ◌<ℤ◌}
 use Rattle.std.proofs.lemmas.Int.{ints}
 use Rattle.cqs_core.specs.QueueLine.{door, line, going, ending, due}
 use Rattle.cqs_core.specs.QueueState.{Queue}

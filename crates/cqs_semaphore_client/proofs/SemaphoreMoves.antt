@@ -36,6 +36,7 @@ use Rattle.cqs_rule_laws.specs.Ruled.{number_at}
 use Rattle.cqs_core.specs.SemaphoreNames.{entry_names}
 use Rattle.cqs_rule_laws.specs.Held.{held_of}
 use Rattle.cqs_rule_laws.proofs.Held.{held-is, held-set, held-kept}
+use Rattle.cqs_rule.proofs.Ticketless.{no-ticket, if-ticketless}
 use Rattle.cqs_semaphore_client.proofs.LowLine.{state-above-line}
 use Rattle.cqs_words.specs.State.{count_in, is_above_zero, is_below_zero}
 use Rattle.cqs_semaphore_client.proofs.StateWords.{above-lowest, found-loaded, found-other, loaded-free, some-word, state-busy, state-enough, state-free, state-less, state-more, state-none, state-short, state-some, word-above, written}
@@ -328,6 +329,7 @@ take-moves permits p facts idle may = record {
       take-core permits p facts c words log core does has short idle small;
   silent = λ n. take-silent p (is_above_zero n);
   door = λ n q. inr may;
+  ticket = λ n j q. absurd (no-ticket _ (if-ticketless (is_above_zero n) doing.Idle doing.Door tt tt) j q);
   owed = λ n owing. refl;
   keeps = λ n none. absurd (some-entry (is_above_zero n) (entry.TakeNow p) (entry.TakeDoor p) none);
   owing = λ n none. absurd (some-entry (is_above_zero n) (entry.TakeNow p) (entry.TakeDoor p) none);
@@ -342,6 +344,8 @@ try-load-moves permits p facts idle = record {
       try-load-core permits p facts c words log core does has short idle;
   silent = λ n. try-load-silent p (is_above_zero n);
   door = λ n q. absurd (no-door (is_above_zero n) (count_in n) q);
+  ticket = λ n j q. absurd (no-ticket _ (if-ticketless (is_above_zero n) (doing.TryAt (count_in n)) doing.Idle tt tt) j
+      q);
   owed = λ n owing. refl;
   keeps = λ n none. refl;
   owing = λ n none. free-still (is_above_zero n) (count_in n) ∙ sym (ap is_owing idle);
@@ -366,6 +370,7 @@ try-swap-moves permits p facts saw at = record {
       try-swap-core permits p facts c words log core does has short saw at;
   silent = λ n. try-swap-silent p (where_found saw n);
   door = λ n q. absurd (no-door q);
+  ticket = λ n j q. absurd (no-ticket doing.Idle tt j q);
   owed = λ n owing. refl;
   keeps = λ n none. same-has (where_found saw n) none;
   owing = λ n none. sym (ap is_owing at);
@@ -390,6 +395,7 @@ give-moves permits p facts idle some = record {
       (word-below (slice_index words 0) (free-small (core_shown permits c words log) core));
   silent = λ n. give-silent p (is_below_zero n);
   door = λ n q. absurd (no-door (is_below_zero n) q);
+  ticket = λ n j q. absurd (no-ticket _ (if-ticketless (is_below_zero n) doing.Owes doing.Idle tt tt) j q);
   owed = λ n owing. absurd (not-owing facts.doing doing.Idle idle refl owing);
   keeps = λ n none. absurd (some-entry (is_below_zero n) (entry.GiveSent p) (entry.GiveFreed p) none);
   owing = λ n none. absurd (some-entry (is_below_zero n) (entry.GiveSent p) (entry.GiveFreed p) none);
@@ -460,6 +466,7 @@ decide-moves permits p facts k leaves = record {
       (word-below (slice_index words 0) (free-small (core_shown permits c words log) core)));
   silent = λ n m apart. rw (ne_eqb p m (λ q. apart (sym q))) refl;
   door = λ n q. absurd (no-door (number_at facts.doing) (is_below_zero n) q);
+  ticket = λ n j q. absurd (no-ticket (doing.Decided (number_at facts.doing) (is_below_zero n)) tt j q);
   owed = λ n owing. refl;
   keeps = λ n none. absurd (some-entry (number_at facts.doing) none);
   owing = λ n none. absurd (some-entry (number_at facts.doing) none);

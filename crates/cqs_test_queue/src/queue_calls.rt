@@ -9,11 +9,11 @@
 
 use crate::line::{CONFIG, alone, come, has, owe, send, wait};
 use cqs_cancel::{Left, cancel};
-use cqs_cell::{install, leave_value, look, serve, take_value};
+use cqs_cell::{install, leave_value, look, serve, take_value, watch};
 use cqs_find::{Found, find};
 use cqs_rule::{
     CELLS_WORD, CancelMode, Cancels, Config, Draws, MakeError, Place, Polls, Queue, RESUMES_WORD,
-    Reaches, SUSPENDS_WORD, Silent, Watches,
+    Reaches, SUSPENDS_WORD, Silent,
 };
 use cqs_semaphore_client::{
     SemClient, TrySwap, give_permit, load_state, next_wait, read_state, try_take,
@@ -84,7 +84,7 @@ fn looks_at_a_wait(rt: HostRuntime) -> Result<(), Fail> {
     let at = queue.spend_wait(&mut pass, wait);
     let waiter = CellWord::bare(0, CellState::Waiter);
     assert!(rt; waiter.pack() == 1_048_576);
-    assert!(rt; look::<SemClient, Watches>(&queue, &mut pass, at) == waiter);
+    assert!(rt; watch(&queue, &mut pass, at) == waiter);
     assert!(rt; look::<SemClient, Polls>(&queue, &mut pass, at) == waiter);
     Ok(())
 }

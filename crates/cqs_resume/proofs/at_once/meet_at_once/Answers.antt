@@ -1,9 +1,9 @@
-use Rattle.std.proofs.Common.{◌∷◌, [], refl, sym, ap, ◌∙◌, arith}
+use Rattle.std.proofs.Common.{[], refl, sym, ap, ◌∙◌, arith}
 use Rattle.cqs_core.specs.declared.cells.CoreState.TheVariants as state
 use Rattle.cqs_core.specs.declared.doings.Doing.TheVariants as doing
 use Rattle.cqs_core.specs.QueueSteps.{serves, leaves, ends_missed}
 use Rattle.cqs_rule_laws.proofs.CellSteps.{shown-injective}
-use Rattle.cqs_resume.proofs.AtOnceSteps.{end-missed, looks-missed, worked-missed}
+use Rattle.cqs_resume.proofs.AtOnceSteps.{end-missed, worked-missed}
 use Rattle.cqs_resume.proofs.OneNumber.{stays-searched, stays-missed, way-searched, tried-first, tried-next, worked-by, met-by, end-serves, end-leaves}
 use Rattle.cqs_resume.proofs.at_once.meet_at_once.Goals as goal
 

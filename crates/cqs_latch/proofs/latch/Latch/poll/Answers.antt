@@ -102,3 +102,9 @@ returns-in-None-clause-keeps g c =
 pub returns-in-None-clause-alone : goal.returns-in-None-clause-alone
 returns-in-None-clause-alone g c = λ alone.
     plain-polled (place_of c.args.wait).index (Pending c.wait_of.result) _ _ (returns-in-None-clause-called g c) alone
+
+pub returns-in-None-clause-ready : goal.returns-in-None-clause-ready
+returns-in-None-clause-ready g c = (returns-in-None-clause-polled g c).3.ready
+
+pub returns-in-Some-clause-ready : goal.returns-in-Some-clause-ready
+returns-in-Some-clause-ready g c = (returns-in-Some-clause-polled g c).1.ready

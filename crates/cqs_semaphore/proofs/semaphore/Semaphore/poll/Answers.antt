@@ -86,3 +86,9 @@ returns-in-None-clause-polled g c =
 
 pub returns-in-None-clause-alone : goal.returns-in-None-clause-alone
 returns-in-None-clause-alone g c = λ alone. plain-pending _ _ _ (returns-in-None-clause-called g c) alone
+
+pub returns-in-Some-clause-ready : goal.returns-in-Some-clause-ready
+returns-in-Some-clause-ready g c = (returns-in-Some-clause-polled g c).2.ready
+
+pub returns-in-None-clause-ready : goal.returns-in-None-clause-ready
+returns-in-None-clause-ready g c = (returns-in-None-clause-polled g c).3.ready

@@ -37,6 +37,7 @@ use Rattle.cqs_rule_laws.proofs.Lists.{prefix-then}
 use Rattle.cqs_rule_laws.proofs.Prefixes.{prefix-same, saw-prefix}
 use Rattle.cqs_rule_laws.proofs.Rules.{NoneName, call-rule_ending, call-rule_own, called-weak}
 use Rattle.cqs_suspend.proofs.Sat.{sat-taken, sat-installed}
+use Rattle.cqs_barrier.proofs.Endings.{owing-none, served-from}
 use Rattle.cqs_barrier.proofs.LeaveSteps.{remaining-was}
 
 abbrev arrive_entries : Bool → ℕ → List BarrierEntry
@@ -161,6 +162,16 @@ module _ {T : Type 0} where
       found = subst (λ n. RemainingWas v n c.before (entry.ArriveLast v.number ∷ []) w) (eqb-true (remaining_in m) 1 is)
           (found-later v x w (remaining_in m) c.before _ c.found (r.called.more, r.called.seen) r.called.same.opening);
     };
+    served = served-from ks v x w (c.called.more, c.called.seen) r.served;
+    many =
+        let ran = r.many in
+        let size : parties_in m ≡ w.opening.size =
+        c.parties ∙ sym (ap (λ (o : Opening). o.size) r.called.same.opening) in
+        let idle = owing-none x.facts c.doing in
+        let further : x.facts.has.further ≡ parties_in m - 1 = c.further in
+        let same : length (served-from ks v x w (c.called.more, c.called.seen) r.served).ends
+        ≡ length r.served.ends = refl in
+        omega (arith, ran, size, idle, further, same);
   }
 
   pub came-last : (m : ℕ) (v x w : View BarrierEntry T) → is_last m ≡ true → Came true m v x → RanAll x None w

@@ -26,6 +26,8 @@ module _ {T : Type 0} where
     held = r.held;
     waits = r.waits;
     passed = r.passed;
+    served = r.served;
+    many = r.many;
   }
 
   -- the resumptions behind one that ended

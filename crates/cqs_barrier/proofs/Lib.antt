@@ -2,6 +2,7 @@ pub mod BarrierMoves
 pub mod WordFound
 pub mod LeaveSteps
 pub mod LeftSteps
+pub mod Endings
 pub mod ResumeSteps
 pub mod Grown
 pub mod NextFound

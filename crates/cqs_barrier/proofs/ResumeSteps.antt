@@ -11,6 +11,7 @@ use Rattle.cqs_barrier_object.specs.declared.entries.BarrierEntry.TheVariants as
 use Rattle.cqs_barrier_object.specs.BarrierEntries.{IsLegal}
 use Rattle.cqs_barrier_object.specs.BarrierSteps.{step_entries}
 use Rattle.cqs_rule.specs.declared.queue.tokens.Under.{Under}
+use Rattle.cqs_rule.specs.Owed.{HasUnder, owes_at}
 use Rattle.cqs_rule_laws.specs.declared.view.Facts.{Facts}
 use Rattle.cqs_rule_laws.specs.declared.view.View.{View}
 use Rattle.cqs_rule_laws.specs.Called.{Called}
@@ -23,7 +24,10 @@ use Rattle.cqs_resume.specs.Rounds.{numbers}
 use Rattle.cqs_resume.proofs.Ends.{IsQuiet, ended-at, handed-back, drawn-few}
 use Rattle.cqs_barrier.specs.Barrier.{barrier_object}
 use Rattle.cqs_barrier.specs.Calls.{waiting_in}
-use Rattle.cqs_barrier.specs.Causes.{primitive_of}
+use Rattle.cqs_barrier.specs.Causes.{primitive_of, CellWas}
+use Rattle.cqs_barrier.specs.Endings.{Ending, served_at, left_at, refused_at, number_of, EndsIn, ending_entries, served_in}
+use Rattle.cqs_barrier.proofs.Endings.{ended-so, owing-none, owing-one, served-none, served-then}
+use Rattle.cqs_rule_laws.specs.Facts.{is_owing}
 use Rattle.cqs_barrier.proofs.AloneOrder.{KnowsAlone, none-served, one-served}
 use Rattle.cqs_barrier.specs.Resuming.{most_passed_over, OwesMore, Ran, RanNext, RanAll}
 
@@ -36,16 +40,28 @@ delivers-append [] ks = refl
 delivers-append (j ∷ js) ks = ap (λ l. entry.Deliver j ∷ l) (delivers-append js ks)
 
 module _ {T : Type 0} where
+  -- a pass that has a resumption handed back owes it
+  pub owing-under : (under : Under) (v : View BarrierEntry T) → HasUnder v.facts under → is_owing v.facts.doing ≡ true
+  owing-under under v has = ap is_owing has.owes.doing ∙ owes under.ticket
+    where
+      owes : (ticket : Option ℕ) → is_owing (owes_at ticket) ≡ true
+      owes None = refl
+      owes (Some k) = refl
+
   -- it ended at the cell of the number k, by a step with these entries
-  ended : (s : QueueStep) (state : CoreState) (ticket : Option ℕ) (k left : ℕ) (ks : List ℕ) (v w : View BarrierEntry T)
-      → Ended barrier_object primitive_of s state most_passed_over ticket 0 k v w
-      → step_entries s v.number k ≡ delivers ks
+  ended : (s : QueueStep) (state : CoreState) (ticket : Option ℕ) (k left : ℕ) (ks : List ℕ) (end : Ending)
+      (v w : View BarrierEntry T) → Ended barrier_object primitive_of s state most_passed_over ticket 0 k v w
+      → step_entries s v.number k ≡ delivers ks → step_entries s v.number k ≡ ending_entries end
+      → k ≡ number_of end → served_in (end ∷ []) ≡ ks → EndsIn end state → is_owing v.facts.doing ≡ true
       → v.facts.has.further ≡ left → v.facts.has.payload ≡ 0
       → (Called barrier_object v (delivers ks) [] w → w.facts.doing ≡ doing.Idle → v.alone ≡ true
       → waiting_in v ≡ ks ++ waiting_in w)
       → RanNext left v None w
-  ended s state ticket k left ks v w e is further payload order =
+  ended s state ticket k left ks end v w e is ends number served found owing further payload order =
       let a = ended-at barrier_object primitive_of quiet s state most_passed_over ticket 0 k v w e in
+      let kept : w.facts.has.further ≡ v.facts.has.further = ap (λ h. h.further) a.has in
+      let over = owing-none w.facts a.idle in
+      let owed = owing-one v.facts owing in
       let called : Called barrier_object v (delivers ks) [] w =
       subst (λ es. Called barrier_object v es [] w) is (called-weak barrier_object v w _ _ a.called) in (
         ks,
@@ -56,6 +72,16 @@ module _ {T : Type 0} where
           held = ap (λ h. h.held) a.has;
           waits = a.waits;
           passed = a.passed;
+          served = record {
+            ends = end ∷ [];
+            serves = served;
+            each = (
+              ended-so end state (step_entries s v.number k) v w found ends a.called
+                  (subst (λ j. CellWas state j (step_entries s v.number k) w) number a.cell),
+              tt,
+            );
+          };
+          many = omega (arith, kept, over, owed);
         },
         record {
           idle = a.idle;
@@ -65,11 +91,12 @@ module _ {T : Type 0} where
       )
 
   module _ (ticket : Option ℕ) (left : ℕ) (v w : View BarrierEntry T) (further : v.facts.has.further ≡ left)
-      (payload : v.facts.has.payload ≡ 0) where
+      (payload : v.facts.has.payload ≡ 0) (owing : is_owing v.facts.doing ≡ true) where
     pub ran-served : (k : ℕ) → IsLegal w.opening.size w.seen → KnowsAlone v → KnowsAlone w
         → Resumes barrier_object primitive_of most_passed_over ticket 0 v (resumed.Served k) w → RanNext left v None w
     ran-served k legal knows knows' e =
-        ended serves state.Waiter ticket k left (k ∷ []) v w e refl further payload
+        ended serves state.Waiter ticket k left (k ∷ []) (served_at k) v w e refl refl refl refl refl owing further
+        payload
         (λ called idle alone. one-served v w k called legal knows knows' idle alone)
 
     none-reached : Called barrier_object v [] [] w → w.facts.doing ≡ doing.Idle → v.alone ≡ true
@@ -78,18 +105,27 @@ module _ {T : Type 0} where
 
     pub ran-left : (k : ℕ)
         → Resumes barrier_object primitive_of most_passed_over ticket 0 v (resumed.Left k) w → RanNext left v None w
-    ran-left k (inl e) = ended leaves state.Empty ticket k left [] v w e refl further payload none-reached
-    ran-left k (inr e) = ended delegates state.Cancelling ticket k left [] v w e refl further payload none-reached
+    ran-left k (inl e) = ended leaves state.Empty ticket k left [] (left_at k) v w e refl refl refl refl (inl refl)
+        owing further payload
+        none-reached
+    ran-left k (inr e) = ended delegates state.Cancelling ticket k left [] (left_at k) v w e refl refl refl refl
+        (inr refl) owing further
+        payload none-reached
 
     pub ran-refused : (k : ℕ)
         → Resumes barrier_object primitive_of most_passed_over ticket 0 v (resumed.Refused k) w → RanNext left v None w
-    ran-refused k e = ended ends_refused state.Refused ticket k left [] v w e refl further payload none-reached
+    ran-refused k e = ended ends_refused state.Refused ticket k left [] (refused_at k) v w e refl refl refl refl refl
+        owing further payload
+        none-reached
 
     pub ran-under : (under : Under)
         → Resumes barrier_object primitive_of most_passed_over ticket 0 v (resumed.Under under) w
         → RanNext left v (Some under) w
     ran-under under e =
-        let h = handed-back barrier_object primitive_of quiet most_passed_over ticket 0 under v w e in (
+        let h = handed-back barrier_object primitive_of quiet most_passed_over ticket 0 under v w e in
+        let kept : w.facts.has.further ≡ v.facts.has.further = ap (λ h. h.further) h.has in
+        let owed = owing-one v.facts owing in
+        let still = owing-one w.facts (ap (λ (f : Facts). is_owing f.doing) e.facts_are) in (
           numbers e.over,
           record {
             called = h.called;
@@ -97,6 +133,8 @@ module _ {T : Type 0} where
             held = ap (λ h. h.held) h.has;
             waits = h.waits;
             passed = h.passed;
+            served = served-none v w;
+            many = omega (arith, kept, owed, still);
           },
           (let few = drawn-few e.over in let all = e.all in omega arith),
           e.has,
@@ -115,9 +153,21 @@ module _ {T : Type 0} where
     passed = b.passed ∙ (ap (λ l. l ++ more) a.passed ∙ append_assoc v.facts.passed over more);
     in_order = λ alone. a.in_order alone
         ∙ (ap (λ l. js ++ l) (b.in_order (a.called.same.alone ∙ alone)) ∙ sym (append_assoc js ks (waiting_in w)));
+    served = served-then js ks v u w (a.called.more, a.called.seen) (b.called.more, b.called.seen)
+        b.called.same.opening a.served b.served;
+    many =
+        let one = a.many in
+        let two = b.many in
+        let all = length-append a.served.ends b.served.ends in
+        omega (arith, one, two, all);
   }
 
   -- a number was drawn for the next resumption
+  pub began-further : (k left : ℕ) (v u : View BarrierEntry T) → OwesMore (left + 1) v.facts
+      → Drew barrier_object begins v k u → u.facts.has.further ≡ left
+  began-further k left v u owes d =
+      ap (λ (f : Facts). f.has.further) d.facts_are ∙ (ap (λ n. n - 1) owes.further ∙ omega arith)
+
   pub began : (k left : ℕ) (v u : View BarrierEntry T) → OwesMore (left + 1) v.facts → Drew barrier_object begins v k u
       → Ran [] [] v u
   began k left v u owes d = record {
@@ -126,12 +176,14 @@ module _ {T : Type 0} where
     waits = ap (λ (f : Facts). f.waits) d.facts_are;
     passed = ap (λ (f : Facts). f.passed) d.facts_are ∙ sym (append-nil v.facts.passed);
     in_order = none-served v u (called-by barrier_object v u _ [] d);
+    served = served-none v u;
+    many =
+        let further = began-further k left v u owes d in
+        let more = owes.further in
+        let idle = owing-none v.facts owes.idle in
+        let owed = owing-one u.facts (ap (λ (f : Facts). is_owing f.doing) d.facts_are) in
+        omega (arith, further, more, idle, owed);
   }
-
-  pub began-further : (k left : ℕ) (v u : View BarrierEntry T) → OwesMore (left + 1) v.facts
-      → Drew barrier_object begins v k u → u.facts.has.further ≡ left
-  began-further k left v u owes d =
-      ap (λ (f : Facts). f.has.further) d.facts_are ∙ (ap (λ n. n - 1) owes.further ∙ omega arith)
 
   pub next-after : (left : ℕ) (answer : Option Under) (v u w : View BarrierEntry T) → Ran [] [] v u
       → RanNext left u answer w → RanNext left v answer w
@@ -146,6 +198,8 @@ ran-none v = record {
   waits = refl;
   passed = sym (append-nil v.facts.passed);
   in_order = λ alone. refl;
+  served = served-none v v;
+  many = let none : length (served-none v v).ends ≡ 0 = refl in omega (arith, none);
 }
 
 module _ {T : Type 0} (left : ℕ) where

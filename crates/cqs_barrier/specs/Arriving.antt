@@ -1,5 +1,5 @@
 -- What an arrival answers, and why.
-use Rattle.std.specs.Prelude.{◌≡◌, ◌⊎◌, ℕ, ◌-◌, ◌<◌, ◌≤◌, List, [], ◌∷◌, ◌++◌, length, Result, Ok, Err}
+use Rattle.std.specs.Prelude.{◌≡◌, ◌⊎◌, ℕ, ◌+◌, ◌-◌, ◌<◌, ◌≤◌, List, [], ◌∷◌, ◌++◌, length, Result, Ok, Err}
 use Rattle.cqs_core.specs.declared.cells.CoreState.TheVariants as state
 use Rattle.cqs_core.specs.QueueSteps.{installs, takes}
 use Rattle.cqs_barrier_object.specs.declared.entries.BarrierEntry.{BarrierEntry}
@@ -19,6 +19,7 @@ use Rattle.cqs_barrier.specs.Barrier.{barrier_object}
 use Rattle.cqs_rule_laws.specs.CallRule.{IsReady}
 use Rattle.cqs_barrier.specs.Calls.{CallRule, Rests, plain_after}
 use Rattle.cqs_barrier.specs.Causes.{primitive_of, CellWas}
+use Rattle.cqs_barrier.specs.Endings.{Served, owed_by}
 use Rattle.cqs_barrier.specs.Leaving.{RemainingWas}
 use Rattle.cqs_barrier.specs.Resuming.{HasOwing, most_passed_over}
 use Rattle.cqs_barrier.specs.Waits.{wait_in}
@@ -56,10 +57,13 @@ module _ {T : Type 0} where
     pub more : 1 < count
     pub found : RemainingWas v count before (entry.ArriveDoor v.number ∷ []) w
 
-  -- The last party: the waits of these numbers were served by this call.
+  -- The last party: the waits of these numbers were served by this call, each with its cell. Of the
+  -- resumptions, one for each other party, all have ended but those that are owed still.
   pub record CameLast (ks : List ℕ) (v w : View BarrierEntry T) : Type 0 where
     pub called : CallRule v (entry.ArriveLast v.number ∷ []) (delivers ks) w
     pub last : WasLast v w
+    pub served : Served ks v w
+    pub many : length served.ends + owed_by w.facts ≡ w.opening.size - 1
 
   -- An earlier one: it drew this number, and these entries came after it, as the last ones.
   pub record CameEarly (k : ℕ) (further : List BarrierEntry) (v w : View BarrierEntry T)
@@ -101,10 +105,12 @@ module _ {T : Type 0} where
       EndsBy barrier_object primitive_of installs 0 (place_of (wait_in wait)).index 0 v w
       × HasWait w (wait_in wait)
 
-  -- A finish made no step but those of the resumptions that were owed, which served these waits and
-  -- passed over these numbers.
+  -- A finish made no step but those of the resumptions that were owed, which served these waits,
+  -- each with its cell, and passed over these numbers. All that are owed no more have ended.
   pub record Finished (ks over : List ℕ) (v w : View BarrierEntry T) : Type 0 where
     pub called : CallRule v [] (delivers ks) w
+    pub served : Served ks v w
+    pub many : length served.ends + owed_by w.facts ≡ owed_by v.facts
     pub held : w.facts.has.held ≡ v.facts.has.held
     pub waits : w.facts.waits ≡ v.facts.waits
     pub passed : w.facts.passed ≡ v.facts.passed ++ over

@@ -10,6 +10,7 @@ pub mod Entries
 pub mod Causes
 pub mod Answers
 pub mod Leaving
+pub mod Endings
 pub mod Resuming
 pub mod Arriving
 pub mod Alone

@@ -1,6 +1,6 @@
 -- What the resumptions of a barrier's last party leave of its pass: each that it owes is begun, one
 -- after the other, and ends at a cell or is handed back.
-use Rattle.std.specs.Prelude.{◌≡◌, ℕ, ◌<◌, ◌≤◌, true, List, [], ◌++◌, length, Option, Some, None}
+use Rattle.std.specs.Prelude.{◌≡◌, ℕ, ◌+◌, ◌<◌, ◌≤◌, true, List, [], ◌++◌, length, Option, Some, None}
 use Rattle.cqs_core.specs.declared.doings.Doing.TheVariants as doing
 use Rattle.cqs_barrier_object.specs.declared.entries.BarrierEntry.{BarrierEntry}
 use Rattle.cqs_barrier_object.specs.SoleCaller.{delivers}
@@ -12,6 +12,7 @@ use Rattle.cqs_rule.specs.Owed.{HasUnder, under_payload, under_reached}
 use Rattle.cqs_barrier.specs.declared.answers.Owing.{Owing}
 use Rattle.cqs_barrier.specs.Barrier.{barrier_object}
 use Rattle.cqs_barrier.specs.Calls.{waiting_in}
+use Rattle.cqs_barrier.specs.Endings.{Served, owed_by}
 
 -- how many numbers one call passes over before it hands a resumption back
 abbrev pub most_passed_over : ℕ
@@ -47,15 +48,17 @@ HasGrown reached None w = reached ≤ w.facts.reached
 HasGrown reached (Some under) w = reached < under_reached under
 
 module _ {T : Type 0} where
-  -- The pass made no step but those of its resumptions, which served these waits. It holds and
-  -- waits for what it did before, and passed over these numbers. Where it is alone the waits are
-  -- the first of the line, in order.
+  -- The pass made no step but those of its resumptions, which served these waits, each with its
+  -- cell; all that it owes no more have ended. It holds and waits for what it did before, and
+  -- passed over these numbers. Where it is alone the waits are the first of the line, in order.
   pub record Ran (ks : List ℕ) (over : List ℕ) (v w : View BarrierEntry T) : Type 0 where
     pub called : Called barrier_object v (delivers ks) [] w
     pub held : w.facts.has.held ≡ v.facts.has.held
     pub waits : w.facts.waits ≡ v.facts.waits
     pub passed : w.facts.passed ≡ v.facts.passed ++ over
     pub in_order : v.alone ≡ true → waiting_in v ≡ ks ++ waiting_in w
+    pub served : Served ks v w
+    pub many : length served.ends + owed_by w.facts ≡ owed_by v.facts
 
   -- one resumption ended, or was handed back after so many numbers
   abbrev pub RanNext : ℕ → View BarrierEntry T → Option Under → View BarrierEntry T → Type 0

@@ -8,7 +8,7 @@ use Rattle.cqs_barrier.specs.Barrier.{barrier_object}
 use Rattle.cqs_barrier.specs.Causes.{primitive_of}
 use Rattle.cqs_barrier.specs.Resuming.{most_passed_over}
 use Rattle.cqs_barrier.proofs.Grown.{finished-grown}
-use Rattle.cqs_barrier.proofs.ResumeSteps.{ran-served, ran-left, ran-refused, ran-under}
+use Rattle.cqs_barrier.proofs.ResumeSteps.{owing-under, ran-served, ran-left, ran-refused, ran-under}
 use Rattle.cqs_barrier.proofs.barrier.Barrier.resume_on.Goals as goal
 
 pub returns-in-Served-clause-ran : goal.returns-in-Served-clause-ran
@@ -16,7 +16,8 @@ returns-in-Served-clause-ran g c =
     let v = pass_view c.args.pass.now in
     let w = pass_view c.finish.new.pass in
     let t = under_ticket c.args.under in
-    ran-served t c.args.left v w c.requires.further (c.requires.owes.owes.owed ∙ c.requires.payload) c.in-Served.field-0
+    ran-served t c.args.left v w c.requires.further (c.requires.owes.owes.owed ∙ c.requires.payload)
+    (owing-under c.args.under v c.requires.owes) c.in-Served.field-0
     c.finish.ensures.belongs.live.legal (c.requires.belongs.alone c.args.pass.now.live.0)
     (c.finish.ensures.belongs.alone c.finish.new.pass.live.0)
     (subst (λ (z : ℕ × Resumed). Resumes barrier_object primitive_of most_passed_over t z.0 v z.1 w)
@@ -27,7 +28,8 @@ returns-in-Left-clause-ran g c =
     let v = pass_view c.args.pass.now in
     let w = pass_view c.finish.new.pass in
     let t = under_ticket c.args.under in
-    ran-left t c.args.left v w c.requires.further (c.requires.owes.owes.owed ∙ c.requires.payload) c.in-Left.field-0
+    ran-left t c.args.left v w c.requires.further (c.requires.owes.owes.owed ∙ c.requires.payload)
+    (owing-under c.args.under v c.requires.owes) c.in-Left.field-0
     (subst (λ (z : ℕ × Resumed). Resumes barrier_object primitive_of most_passed_over t z.0 v z.1 w)
     (λ i. (c.requires.payload i, c.in-Left.is i)) c.finish.ensures.resumed)
 
@@ -37,7 +39,7 @@ returns-in-Refused-clause-ran g c =
     let w = pass_view c.finish.new.pass in
     let t = under_ticket c.args.under in
     ran-refused t c.args.left v w c.requires.further (c.requires.owes.owes.owed ∙ c.requires.payload)
-    c.in-Refused.field-0
+    (owing-under c.args.under v c.requires.owes) c.in-Refused.field-0
     (subst (λ (z : ℕ × Resumed). Resumes barrier_object primitive_of most_passed_over t z.0 v z.1 w)
     (λ i. (c.requires.payload i, c.in-Refused.is i)) c.finish.ensures.resumed)
 
@@ -46,7 +48,8 @@ returns-in-Under-clause-ran g c =
     let v = pass_view c.args.pass.now in
     let w = pass_view c.finish.new.pass in
     let t = under_ticket c.args.under in
-    ran-under t c.args.left v w c.requires.further (c.requires.owes.owes.owed ∙ c.requires.payload) c.in-Under.under
+    ran-under t c.args.left v w c.requires.further (c.requires.owes.owes.owed ∙ c.requires.payload)
+    (owing-under c.args.under v c.requires.owes) c.in-Under.under
     (subst (λ (z : ℕ × Resumed). Resumes barrier_object primitive_of most_passed_over t z.0 v z.1 w)
     (λ i. (c.requires.payload i, c.in-Under.is i)) c.finish.ensures.resumed)
 

@@ -1,7 +1,7 @@
 -- How the passes of a crew come together in one.
 use Rattle.std.proofs.Common.{◌≡◌, ◌≢◌, inl, inr, ℕ, zero, suc, ◌+◌, ◌<◌, List, [], ◌∷◌, ◌++◌, Some, length, slice_get, sym, refl, ap, ◌∙◌, subst, append_assoc, arith, length-append}
 use Rattle.std.proofs.lemmas.List.{append-nil, length_push}
-use Rattle.std.proofs.lemmas.List.Elements.{filter-append}
+use Rattle.std.proofs.lemmas.List.Elements.{All-nil, All-push, filter-append}
 use Rattle.std.proofs.lemmas.List.Sums.{fold-append}
 use Rattle.std.proofs.lemmas.Option.{same_Some}
 use mathlib.Core.Logic.{dite}
@@ -21,7 +21,7 @@ use Rattle.cqs_rule.specs.declared.queue.Pass.{Pass}
 use Rattle.cqs_rule.specs.Passes.{pass_view}
 use Rattle.cqs_semaphore_client.specs.declared.semaphore.SemClient.{SemClient}
 use Rattle.cqs_semaphore_crew.specs.declared.counts.Counts.{Counts}
-use Rattle.cqs_semaphore_crew.specs.Sums.{both_counts, no_counts}
+use Rattle.cqs_semaphore_crew.specs.Sums.{both_counts, no_counts, CountsRounds}
 use Rattle.cqs_semaphore_crew.specs.Tallies.{HasWorked, TellsBut, tally_of}
 use Rattle.cqs_semaphore_crew.specs.Workers.{HasMetAll, HasTakenIn, HasCounted, HasToldAll, IsNew}
 
@@ -64,21 +64,24 @@ module _ {T : Type 0} where
   }
 
   -- the counts of nobody
-  pub counted-none : (v : View Entry T) (counts : Counts) → counts ≡ no_counts → HasCounted v v counts
-  counted-none v counts is = record {
+  pub counted-none : (rounds : ℕ) (v : View Entry T) (counts : Counts) → counts ≡ no_counts
+      → HasCounted rounds v v counts
+  counted-none rounds v counts is = record {
     numbers = [];
     own_is = sym (append-nil v.own);
     each = [];
     many = refl;
     tells = λ i n c got. absurd (cc);
+    made = All-nil (CountsRounds rounds);
     sum = is;
   }
 
   -- of one pass more
-  pub counted-more : {g : Ghosts (SemClient T) T Entry} (v u w : View Entry T) (given : Pass (SemClient T) T Entry g)
-      (counts more : Counts) → HasCounted v u counts → HasTakenIn u (pass_view given) w → HasToldAll given more
-      → HasCounted v w (both_counts counts more)
-  counted-more v u w given counts more was taken told = record {
+  pub counted-more : {g : Ghosts (SemClient T) T Entry} (rounds : ℕ) (v u w : View Entry T)
+      (given : Pass (SemClient T) T Entry g) (counts more : Counts) → HasCounted rounds v u counts
+      → HasTakenIn u (pass_view given) w → HasToldAll given more → CountsRounds rounds more
+      → HasCounted rounds v w (both_counts counts more)
+  counted-more rounds v u w given counts more was taken told done = record {
     numbers = was.numbers ++ k ∷ [];
     own_is = taken.own_is ∙ ((λ i. was.own_is i ++ told.own i) ∙ append_assoc v.own was.numbers (k ∷ []));
     each = was.each ++ more ∷ [];
@@ -100,6 +103,7 @@ module _ {T : Type 0} where
         let mine : part entry_names n w.seen ≡ part entry_names n u.seen =
         taken.mine n (subst (Has n) (sym was.own_is) (has_right n v.own was.numbers (has-at was.numbers i n got'))) in
         subst (λ l. TellsBut 0 (tally_of l) c) (sym mine) (was.tells i n c got' here'));
+    made = All-push (CountsRounds rounds) was.each more was.made done;
     sum = ap (λ c. both_counts c more) was.sum ∙ sym (fold-append both_counts no_counts was.each (more ∷ []));
   }
     where
@@ -107,14 +111,15 @@ module _ {T : Type 0} where
       k = (pass_view given).number
 
   -- a pass that made others before has as many numbers as before
-  pub counted-from : (v u w : View Entry T) (counts : Counts) → u.own ≡ v.own → HasCounted u w counts
-      → HasCounted v w counts
-  counted-from v u w counts same was = record {
+  pub counted-from : (rounds : ℕ) (v u w : View Entry T) (counts : Counts) → u.own ≡ v.own
+      → HasCounted rounds u w counts → HasCounted rounds v w counts
+  counted-from rounds v u w counts same was = record {
     numbers = was.numbers;
     own_is = was.own_is ∙ ap (λ l. l ++ was.numbers) same;
     each = was.each;
     many = was.many;
     tells = was.tells;
+    made = was.made;
     sum = was.sum;
   }
 

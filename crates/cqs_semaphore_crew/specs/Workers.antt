@@ -1,5 +1,5 @@
 -- What the pass of a worker is at when it is hired, and what passes of a crew have met.
-use Rattle.std.specs.Prelude.{◌≡◌, ℕ, ◌<◌, ◌≤◌, List, [], ◌∷◌, ◌++◌, length, Some, slice_get}
+use Rattle.std.specs.Prelude.{◌≡◌, ℕ, ◌<◌, ◌≤◌, List, [], ◌∷◌, ◌++◌, All, length, Some, slice_get}
 use Rattle.std.specs.List.{fold}
 use Rattle.cqs_core.specs.declared.entries.Entry.{Entry}
 use Rattle.cqs_core.specs.SemaphoreNames.{entry_names}
@@ -14,7 +14,7 @@ use Rattle.cqs_semaphore.specs.declared.semaphore.Semaphore.{Semaphore}
 use Rattle.cqs_semaphore.specs.Callers.{IsAtRest}
 use Rattle.cqs_semaphore.specs.Calls.{Course}
 use Rattle.cqs_semaphore_crew.specs.declared.counts.Counts.{Counts}
-use Rattle.cqs_semaphore_crew.specs.Sums.{both_counts, no_counts}
+use Rattle.cqs_semaphore_crew.specs.Sums.{both_counts, no_counts, CountsRounds}
 use Rattle.cqs_semaphore_crew.specs.Tallies.{TellsBut, tally_of}
 
 module _ {T : Type 0} {g : Ghosts (SemClient T) T Entry} where
@@ -50,15 +50,16 @@ module _ {T : Type 0} where
     pub theirs : (n : ℕ) → Has n given.own
         → part entry_names n w.seen ≡ part entry_names n given.seen
 
-  -- The pass has met passes with these numbers. For each of them there are counts, which are those
-  -- of all entries that name it; and these counts are the sum of them.
-  pub record HasCounted (v w : View Entry T) (counts : Counts) : Type 0 where
+  -- The pass has met passes with these numbers. For each of them there are counts, which are of so
+  -- many rounds, and those of all entries that name it; and these counts are the sum of them.
+  pub record HasCounted (rounds : ℕ) (v w : View Entry T) (counts : Counts) : Type 0 where
     pub numbers : List ℕ
     pub own_is : w.own ≡ v.own ++ numbers
     pub each : List Counts
     pub many : length each ≡ length numbers
     pub tells : (i n : ℕ) (c : Counts) → slice_get numbers i ≡ Some n → slice_get each i ≡ Some c
         → TellsBut 0 (tally_of (part entry_names n w.seen)) c
+    pub made : All (CountsRounds rounds) each
     pub sum : counts ≡ fold both_counts no_counts each
 
   -- The pass has looked on, and then as many passes were made as the semaphore allows. It has met

@@ -47,7 +47,7 @@ pub fn together<R: Threads + Sync>(
     requires rest { IsAtRest semaphore.now (held_by pass.old) pass.old }
     ensures rest { IsAtRest semaphore.now (held_by pass.old) pass.new }
     ensures met { OnOk result (HasMetAll (pass_view pass.old) threads (pass_view pass.new)) }
-    ensures counted { IfOk result (HasCounted (pass_view pass.old) (pass_view pass.new)) }
+    ensures counted { IfOk result (HasCounted rounds (pass_view pass.old) (pass_view pass.new)) }
     ensures rounds { IfOk result (CountsRounds (threads * rounds)) }
     ensures memory { IsErrOf result CrewError.Memory
         → HasMetAll (pass_view pass.old) 0 (pass_view pass.new) }
@@ -143,7 +143,7 @@ fn dismiss(
     requires few { vec_len worked < 2 ^ 32 }
     ensures rest { IsAtRest semaphore.now (held_by pass.old) pass.new }
     ensures met { HasMetAll (pass_view pass.old) (vec_len worked) (pass_view pass.new) }
-    ensures counted { HasCounted (pass_view pass.old) (pass_view pass.new) result }
+    ensures counted { HasCounted _rounds (pass_view pass.old) (pass_view pass.new) result }
     ensures rounds { CountsRounds (vec_len worked * _rounds) result }
 {
     let mut counts = none_yet();

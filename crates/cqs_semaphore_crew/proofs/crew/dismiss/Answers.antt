@@ -17,7 +17,7 @@ loop-given-init c =
       met = met-none _ _ (course-none _ c.requires.rest.belongs.live.legal) refl;
       left = subst (All (λ w. IsHired c.args.semaphore.now w.0)) (sym all) c.requires.worked;
       told = subst (All (λ w. HasToldAll w.0 w.1)) (sym all) c.requires.told;
-      counted = counted-none _ _ c.none_yet-counts.ensures.is;
+      counted = counted-none c.args._rounds _ _ c.none_yet-counts.ensures.is;
       made = subst (All (λ w. CountsRounds c.args._rounds w.1)) (sym all) c.requires.made;
       rounds = subst (λ n. CountsRounds n c.none_yet-counts.result) (sym (zero-mul c.args._rounds))
           c.none_yet-counts.ensures.none;
@@ -49,10 +49,11 @@ loop-given-preserved c =
       met = rw length_push (met-then (length c.loop-given.yielded) 1 _ _ _ so_far.met c.take_in.ensures.met);
       left = All-tail (λ w. IsHired c.args.semaphore.now w.0) (c.in-Some.given, c.in-Some.counted) _ left;
       told = All-tail (λ w. HasToldAll w.0 w.1) (c.in-Some.given, c.in-Some.counted) _ told;
-      counted = subst (HasCounted (pass_view c.args.pass.now) (pass_view c.take_in.new.pass))
+      counted = subst (HasCounted c.args._rounds (pass_view c.args.pass.now) (pass_view c.take_in.new.pass))
           (sym c.with-counts.ensures)
-          (counted-more _ _ _ _ _ _ so_far.counted c.take_in.ensures.taken
-          (told 0 (c.in-Some.given, c.in-Some.counted) (omega arith)));
+          (counted-more c.args._rounds _ _ _ _ _ _ so_far.counted c.take_in.ensures.taken
+          (told 0 (c.in-Some.given, c.in-Some.counted) (omega arith))
+          (made 0 (c.in-Some.given, c.in-Some.counted) (omega arith)));
       made = All-tail (λ w. CountsRounds c.args._rounds w.1) (c.in-Some.given, c.in-Some.counted) _ made;
       rounds = rw length_push (subst (CountsRounds _) (sym c.with-counts.ensures)
           (rounds-with (length c.loop-given.yielded) c.args._rounds _ _ so_far.rounds

@@ -13,7 +13,7 @@ invariant-loop-given l = record {
   met : HasMetAll (pass_view l.fn.pass) (length l.yielded) (pass_view l.pass);
   left : All (λ w. IsHired l.semaphore w.0) (into_iter_items l.given-iterator);
   told : All (λ w. HasToldAll w.0 w.1) (into_iter_items l.given-iterator);
-  counted : HasCounted (pass_view l.fn.pass) (pass_view l.pass) l.counts;
+  counted : HasCounted l.fn._rounds (pass_view l.fn.pass) (pass_view l.pass) l.counts;
   made : All (λ w. CountsRounds l.fn._rounds w.1) (into_iter_items l.given-iterator);
   rounds : CountsRounds (length l.yielded * l.fn._rounds) l.counts;
   all : length l.yielded + length (into_iter_items l.given-iterator) ≡ vec_len l.fn.worked;

@@ -17,7 +17,7 @@ returns-clause-rounds g c =
     (c.in_ok-worked.ensures.len ∙ c.in_ok-passes.ensures.many) c.dismiss.ensures.rounds
 
 pub returns-clause-counted : goal.returns-clause-counted
-returns-clause-counted g c = counted-from _ _ _ _ c.in_ok-passes.ensures.same c.dismiss.ensures.counted
+returns-clause-counted g c = counted-from c.args.rounds _ _ _ _ c.in_ok-passes.ensures.same c.dismiss.ensures.counted
 
 -- what each worker told
 pub dismiss-requires-clause-told : goal.dismiss-requires-clause-told

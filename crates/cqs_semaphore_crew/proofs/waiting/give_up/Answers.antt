@@ -91,6 +91,19 @@ returns-in-Cancelled-Some-clause-by c =
     (course-call semaphore_object v w (entry.Leave v.number k ∷ []) _ _ told.1)
     c.finish_all.ensures.silent
 
+-- the one wait has its permit
+pub returns-in-TooLate-clause-ended : goal.returns-in-TooLate-clause-ended
+returns-in-TooLate-clause-ended c =
+    let k = (place_of c.args.wait).index in
+    let told = rw c.in-TooLate.is at c.cancel.ensures.cancelled in
+    let rests = told.2.3 in
+    record {
+      belongs = c.cancel.ensures.belongs;
+      ready = rests.ready;
+      held_is = rests.held_is;
+      waits_are = rests.waits_are ∙ (ap (without k) c.requires.waits.0.waits_are ∙ without-one k);
+    }
+
 pub returns-in-TooLate-clause-adds : goal.returns-in-TooLate-clause-adds
 returns-in-TooLate-clause-adds c =
     let told = rw c.in-TooLate.is at c.cancel.ensures.cancelled in

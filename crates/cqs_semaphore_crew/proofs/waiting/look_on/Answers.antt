@@ -1,5 +1,8 @@
-use Rattle.std.proofs.Common.{[], ◌∷◌, refl, ap, sym, ◌∙◌}
+use Rattle.std.proofs.Common.{[], ◌∷◌, ◌+◌, refl, ap, sym, ◌∙◌}
 use Rattle.cqs_rule_laws.specs.declared.config.Place.{Place}
+use Rattle.cqs_rule_laws.specs.Lists.{without}
+use Rattle.cqs_rule.specs.Waits.{place_of}
+use Rattle.cqs_semaphore_crew.proofs.Ends.{without-one}
 use Rattle.cqs_semaphore_crew.proofs.Telling.{adds-none, adds-granted, adds-pending, adds-then}
 use Rattle.cqs_semaphore_crew.proofs.Waits.{looks-none, looks-more, looks-granted}
 use Rattle.cqs_semaphore_crew.proofs.waiting.look_on.Goals as goal
@@ -33,6 +36,19 @@ loop-preserved c =
       looks = looks-more _ _ _ _ _ _ c.loop.invariant.looks (rw c.in-Pending.is at c.poll.ensures.called)
           c.loop.invariant.place;
       place = ap (λ (p : Place). p.index) polled.0 ∙ c.loop.invariant.place;
+    }
+
+-- the one wait was served
+pub returns-in-Granted-clause-looked : goal.returns-in-Granted-clause-looked
+returns-in-Granted-clause-looked c =
+    let k = (place_of c.loop.wait).index in
+    let waits = c.loop.invariant.waits.0 in
+    let polled = rw c.in-Granted.is at c.poll.ensures.polled in
+    record {
+      belongs = c.poll.ensures.belongs;
+      ready = c.poll.ensures.ready;
+      held_is = polled.2.held_is ∙ ap (λ n. n + 1) waits.held_is;
+      waits_are = polled.2.waits_are ∙ (ap (without k) waits.waits_are ∙ without-one k);
     }
 
 pub returns-in-Granted-clause-adds : goal.returns-in-Granted-clause-adds

@@ -1,8 +1,50 @@
 //! How C gets a primitive.
 
+ghost use Rattle.std.specs.Prelude.{◌≡◌, ◌≢◌, ◌⊎◌, ◌<◌, ◌≤◌, IfErr, IfOk};
+ghost use Rattle.cqs_c.specs.Making.{IsOfKind, config_of as told_config, kind_at};
+
 use cqs_c_numbers::Numbered;
 use cqs_rule::{CancelMode, Config, MakeError};
 use std::alloc::Global;
+
+/// `cqs_new` had no memory.
+const MEMORY: u32 = 11;
+
+/// A number is out of range.
+const BAD_CONFIG: u32 = 13;
+
+/// What may be made.
+enum Kind {
+    Semaphore,
+    Pool,
+    Latch(CancelMode),
+    Barrier,
+}
+
+fn kind_of(kind: u32) -> Option<Kind>
+    ensures { result ≡ kind_at kind }
+{
+    match kind {
+        0 => Some(Kind::Semaphore),
+        1 => Some(Kind::Pool),
+        2 => Some(Kind::Latch(CancelMode::Smart)),
+        3 => Some(Kind::Latch(CancelMode::Simple)),
+        4 => Some(Kind::Barrier),
+        _ => None,
+    }
+}
+
+fn config_of(kind: u32, size: u32, passes: u32, limit: u64) -> Config
+    requires { passes ≤ 32 }
+    ensures { result ≡ told_config kind size passes limit }
+{
+    Config {
+        passes,
+        limit,
+        // A pool's elements need room for their cells.
+        slots: 2 * passes + 3 + if kind == 1 { size / 32 } else { 0 },
+    }
+}
 
 // The primitive of this kind: a semaphore of so many permits, a pool of so many elements, a latch
 // that is to be counted down so often, or a barrier of so many parties.
@@ -12,14 +54,44 @@ fn make(
     size: u32,
     config: Config,
     waits: u32,
-) -> Result<Numbered, MakeError> {
-    match kind {
-        0 => Numbered::semaphore(alloc, size, config, waits),
-        1 => Numbered::pool(alloc, size, config, waits),
-        2 => Numbered::latch(alloc, size, CancelMode::Smart, config, waits),
-        3 => Numbered::latch(alloc, size, CancelMode::Simple, config, waits),
-        4 => Numbered::barrier(alloc, size, config, waits),
-        _ => Err(MakeError::BadConfig),
+) -> Result<Numbered, MakeError>
+    ensures made { IfOk result (IsOfKind (kind_at kind) size config waits) }
+{
+    match kind_of(kind) {
+        Some(Kind::Semaphore) => Numbered::semaphore(alloc, size, config, waits),
+        Some(Kind::Pool) => Numbered::pool(alloc, size, config, waits),
+        Some(Kind::Latch(mode)) => Numbered::latch(alloc, size, mode, config, waits),
+        Some(Kind::Barrier) => Numbered::barrier(alloc, size, config, waits),
+        None => Err(MakeError::BadConfig),
+    }
+}
+
+// The same in a block of its own, or the number under which C is told why there is none.
+fn make_boxed(
+    alloc: Global,
+    kind: u32,
+    size: u32,
+    passes: u32,
+    limit: u64,
+    waits: u32,
+) -> Result<Box<Numbered>, u32>
+    ensures made { IfOk result (λ made. IsOfKind (kind_at kind) size
+        (told_config kind size passes limit) waits made.value) }
+    ensures refused { IfErr result (λ status. (status ≡ 11) ⊎ (status ≡ 13)) }
+    ensures bad_config { 32 < passes → result ≡ Err 13 }
+{
+    if passes > 32 {
+        return Err(BAD_CONFIG);
+    }
+    let config = config_of(kind, size, passes, limit);
+    let made = match make(alloc, kind, size, config, waits) {
+        Ok(made) => made,
+        Err(MakeError::BadConfig) => return Err(BAD_CONFIG),
+        Err(MakeError::Memory) => return Err(MEMORY),
+    };
+    match Box::new(alloc, made) {
+        Ok(made) => Ok(made),
+        Err(_) => Err(MEMORY),
     }
 }
 
@@ -34,26 +106,16 @@ pub extern "C" fn cqs_new(
     limit: u64,
     waits: u32,
     out: &mut *mut u8,
-) -> u32 {
-    if passes > 32 {
-        return 13;
-    }
-    let config = Config {
-        passes,
-        limit,
-        // A pool's elements need room for their cells.
-        slots: 2 * passes + 3 + if kind == 1 { size / 32 } else { 0 },
-    };
-    let made = match make(alloc, kind, size, config, waits) {
-        Ok(made) => made,
-        Err(MakeError::BadConfig) => return 13,
-        Err(MakeError::Memory) => return 11,
-    };
-    match Box::new(alloc, made) {
+) -> u32
+    ensures told { (result ≡ 0) ⊎ (result ≡ 11) ⊎ (result ≡ 13) }
+    ensures bad_config { 32 < passes → result ≡ 13 }
+    ensures unchanged { result ≢ 0 → out.new ≡ out.old }
+{
+    match make_boxed(alloc, kind, size, passes, limit, waits) {
         Ok(made) => {
             *out = Box::into_raw(made) as *mut u8;
             0
         }
-        Err(_) => 11,
+        Err(status) => status,
     }
 }

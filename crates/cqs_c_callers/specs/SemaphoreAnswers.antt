@@ -1,6 +1,7 @@
 -- What the answers of a call by number mean. A call is refused, for a cause that is the caller's,
--- and leaves it as it was; or it was one call of the semaphore, whose answer is told, and of which
--- all holds that its contract says.
+-- and leaves it as it was; or it was one call of the semaphore, whose answer is told, and of whose
+-- contract those clauses hold that stand here. What it says of a pass that is alone isn't among
+-- them.
 use Rattle.std.specs.Prelude.{◌≡◌, ◌≢◌, ◌⊎◌, ℕ, ◌≤◌, true, [], All, None, IsSome, Result, OnErr, IfOk, vec_len, vec_capacity}
 use Rattle.cqs_core.specs.declared.entries.Entry.{Entry}
 use Rattle.cqs_core.specs.SemaphoreShown.{state_of}

@@ -1,6 +1,7 @@
 -- What the answers of a call by number mean, of a barrier: it is refused, for a cause that is the
 -- caller's, and leaves the caller as it was; or it was one call of the barrier, whose answer is
--- told, and of which all holds that its contract says.
+-- told, and of whose contract those clauses hold that stand here. What it says of a pass that is
+-- alone, and of the cell that an arrival found, isn't among them.
 use Rattle.std.specs.Prelude.{◌≡◌, ◌≢◌, ◌⊎◌, ℕ, ◌≤◌, true, [], All, Option, Some, None, IsSome, Result, OnErr, IfOk, vec_len, vec_capacity}
 use Rattle.cqs_rule_laws.specs.declared.config.AcquireError.{AcquireError}
 use Rattle.cqs_rule_laws.specs.declared.view.View.{View}

@@ -1,6 +1,7 @@
 -- What the answers of a call by number mean, of a latch: it is refused, for a cause that is the
 -- caller's, and leaves the caller as it was; or it was one call of the latch, whose answer is told,
--- and of which all holds that its contract says.
+-- and of whose contract those clauses hold that stand here. What it says of a pass that is alone
+-- isn't among them.
 use Rattle.std.specs.Prelude.{◌≡◌, ◌≢◌, ◌⊎◌, ℕ, ◌≤◌, true, [], All, None, IsSome, Result, vec_len, vec_capacity}
 use Rattle.cqs_rule_laws.specs.declared.config.AcquireError.{AcquireError}
 use Rattle.cqs_rule_laws.specs.declared.config.CancelMode.{CancelMode}

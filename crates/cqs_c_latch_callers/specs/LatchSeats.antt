@@ -1,5 +1,5 @@
 -- What a split and a meet by number have done, of a latch: each is refused, for a cause that is the
--- callers'; or it was the latch's own, of which all holds that its contract says.
+-- callers'; or it was the latch's own, of whose contract those clauses hold that stand here.
 use Rattle.std.specs.Prelude.{◌≡◌, ◌++◌, ◌<◌, ◌≤◌, true, [], None, IsSome}
 use Rattle.cqs_rule_laws.specs.declared.carries.Unparked.{Unparked}
 use Rattle.cqs_rule_laws.specs.Crew.{Came}

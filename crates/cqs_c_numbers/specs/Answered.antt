@@ -9,7 +9,7 @@ use Rattle.cqs_c_numbers.specs.declared.primitive.Primitive.{Primitive}
 use Rattle.cqs_c_numbers.specs.declared.primitive.Primitive.TheVariants as primitive
 use Rattle.cqs_c_callers.specs.declared.verb.Verb.{Verb}
 use Rattle.cqs_c_numbers.specs.Callers.{StandsAs}
-use Rattle.cqs_c_numbers.specs.Numbered.{primitive_in, IsLaid}
+use Rattle.cqs_c_numbers.specs.Numbered.{primitive_in, IsLaid, IsTaken}
 use Rattle.cqs_c_latch_callers.specs.BarrierAnswers as barrier
 use Rattle.cqs_c_latch_callers.specs.LatchAnswers as latch
 use Rattle.cqs_c_callers.specs.PoolAnswers as pool
@@ -28,11 +28,12 @@ Leads (primitive.Barrier b) v n (caller.Barrier c) a (caller.Barrier d) =
     barrier.IsAnswered v n c a d
 Leads _ v n c a d = ⊥
 
--- The pass of this number was taken, and put back: it stood as a caller's pass does, and the call
--- led from there.
+-- The pass of this number was taken by the exchange of its mark, and put back: it stood as a
+-- caller's pass does, and one call led from what was taken to what was put back.
 pub record IsCalled (of : Numbered) (pass : ℕ) (v : Verb) (n : ℕ) (a : Answer) : Type 0 where
   pub before : Caller
   pub after : Caller
+  pub taken : IsTaken of pass 0 (Some before)
   pub stood : StandsAs (primitive_in of) pass before
   pub leads : Leads (primitive_in of) v n before a after
   pub stands : StandsAs (primitive_in of) pass after

@@ -3,3 +3,4 @@ pub mod Marks
 pub mod Numbered
 pub mod Answered
 pub mod Seats
+pub mod Making

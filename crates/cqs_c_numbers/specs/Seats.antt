@@ -8,7 +8,7 @@ use Rattle.cqs_c_numbers.specs.declared.numbered.Numbered.{Numbered}
 use Rattle.cqs_c_numbers.specs.declared.primitive.Primitive.{Primitive}
 use Rattle.cqs_c_numbers.specs.declared.primitive.Primitive.TheVariants as primitive
 use Rattle.cqs_c_numbers.specs.Callers.{StandsAt, StandsAs, pass_number}
-use Rattle.cqs_c_numbers.specs.Numbered.{primitive_in, IsLaid}
+use Rattle.cqs_c_numbers.specs.Numbered.{primitive_in, IsLaid, IsTaken}
 use Rattle.cqs_c_latch_callers.specs.BarrierSeats as barrier
 use Rattle.cqs_c_latch_callers.specs.LatchSeats as latch
 use Rattle.cqs_c_callers.specs.PoolSeats as pool
@@ -58,11 +58,12 @@ TakesIn (caller.Latch c) (caller.Latch given) (caller.Latch d) = latch.TakesIn c
 TakesIn (caller.Barrier c) (caller.Barrier given) (caller.Barrier d) = barrier.TakesIn c given d
 TakesIn _ given d = ⊥
 
--- A new caller was laid under the number of its pass, which is told; or that slot wasn't free,
--- which is told as a crowd.
+-- A new caller was laid under the number of its pass, which is told, and which nobody had; or that
+-- slot wasn't free, which is told as a crowd.
 abbrev pub IsSeated : Numbered → Caller → Answer → Type 0
 IsSeated of made a =
-    ((a ≡ answer.Made (pass_number made)) × IsLaid of (pass_number made) 0 (Some made))
+    ((a ≡ answer.Made (pass_number made)) × IsTaken of (pass_number made) 2 None
+    × IsLaid of (pass_number made) 0 (Some made))
     ⊎ (a ≡ answer.Crowd)
 
 -- the primitive's own split made this caller, who was told so
@@ -72,10 +73,12 @@ pub record IsMade (of : Numbered) (n : ℕ) (c d : Caller) (a : Answer) : Type 0
   pub split : HasSplit (primitive_in of) n c d made
   pub seated : IsSeated of made a
 
--- The pass of this number was taken, and put back: the split was refused, or another pass was made.
+-- The pass of this number was taken by the exchange of its mark, and put back: the split was
+-- refused, or another pass was made.
 pub record Splits (of : Numbered) (pass n : ℕ) (a : Answer) : Type 0 where
   pub before : Caller
   pub after : Caller
+  pub taken : IsTaken of pass 0 (Some before)
   pub stood : StandsAs (primitive_in of) pass before
   pub splits : RefusesSplit (primitive_in of) n before after a ⊎ IsMade of n before after a
   pub stands : StandsAs (primitive_in of) pass after
@@ -92,11 +95,14 @@ Joins of number c given a d =
     (RefusesMeet c given a × (d ≡ c) × IsLaid of number 0 (Some given))
     ⊎ ((a ≡ answer.Met) × TakesIn c given d × IsLaid of number 2 None)
 
--- The passes of both numbers were taken, and the first was put back.
+-- The passes of both numbers were taken, each by the exchange of its mark, and the first was put
+-- back.
 pub record Meets (of : Numbered) (pass number : ℕ) (a : Answer) : Type 0 where
   pub before : Caller
   pub given : Caller
   pub after : Caller
+  pub taken : IsTaken of pass 0 (Some before)
+  pub given_taken : IsTaken of number 0 (Some given)
   pub stood : StandsAs (primitive_in of) pass before
   pub came : StandsAs (primitive_in of) number given
   pub joins : Joins of number before given a after

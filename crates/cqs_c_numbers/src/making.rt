@@ -1,8 +1,11 @@
 //! How a primitive is made whose passes are called by number.
 
-ghost use Rattle.std.specs.Prelude.{◌≡◌, ◌⊎◌, ◌<◌, ◌≤◌, ◌+◌, ◌*◌, false, IfOk, IsErrOf, replicate};
+ghost use Rattle.std.specs.Prelude.{◌≡◌, ◌⊎◌, ◌<◌, ◌≤◌, ◌+◌, ◌*◌, ◌/◌, false, IfErr, IfOk, IsErrOf, replicate};
+ghost use mathlib.Core.Logic.{◌↔◌};
 ghost use Rattle.cqs_rule_laws.specs.Configured.{is_config};
 ghost use Rattle.cqs_c_numbers.specs.Callers.{StandsAt};
+ghost use Rattle.cqs_c_numbers.specs.Making.{HasOpened, IsBarrierOf, IsLatchOf, IsOpen, IsPoolOf, IsSemaphoreOf};
+ghost use Rattle.cqs_c_numbers.specs.Numbered.{primitive_in};
 
 use crate::caller::Caller;
 use crate::marks::{NOBODY, Slots};
@@ -50,8 +53,11 @@ impl Numbered {
         config: Config,
         waits: u32,
     ) -> Result<Numbered, MakeError>
-        ensures bad_config { (permits ≡ 0) ⊎ ((1048576 < permits) ⊎ ((is_config config ≡ false)
-            ⊎ (1048576 < waits))) → IsErrOf result MakeError.BadConfig }
+        ensures bad_config { IsErrOf result MakeError.BadConfig
+            ↔ ((permits ≡ 0) ⊎ (1048576 < permits) ⊎ (is_config config ≡ false)
+            ⊎ (1048576 < waits)) }
+        ensures made { IfOk result (λ made. IsSemaphoreOf permits (primitive_in made)) }
+        ensures open { IfOk result (IsOpen config 0 waits 0) }
     {
         if waits > MOST_WAITS || !config.is_in_range() {
             return Err(MakeError::BadConfig);
@@ -72,8 +78,12 @@ impl Numbered {
     /// A pool of so many elements, all of them free, and its first pass, under the number 0. Each
     /// pass has room for so many waits, and for one element more than there are.
     pub fn pool(alloc: Global, size: u32, config: Config, waits: u32) -> Result<Numbered, MakeError>
-        ensures bad_config { (size ≡ 0) ⊎ ((4096 < size) ⊎ ((is_config config ≡ false)
-            ⊎ (1048576 < waits))) → IsErrOf result MakeError.BadConfig }
+        ensures bad_config { IsErrOf result MakeError.BadConfig
+            ↔ ((size ≡ 0) ⊎ (4096 < size)
+            ⊎ (config.slots < 2 * config.passes + 2 + size / 32 + 1)
+            ⊎ (is_config config ≡ false) ⊎ (1048576 < waits)) }
+        ensures made { IfOk result (λ made. IsPoolOf size (primitive_in made)) }
+        ensures open { IfOk result (IsOpen config 0 waits (size + 1)) }
     {
         if waits > MOST_WAITS || !config.is_in_range() {
             return Err(MakeError::BadConfig);
@@ -95,8 +105,10 @@ impl Numbered {
         config: Config,
         waits: u32,
     ) -> Result<Numbered, MakeError>
-        ensures bad_config { (1048576 < count) ⊎ ((is_config config ≡ false) ⊎ (1048576 < waits))
-            → IsErrOf result MakeError.BadConfig }
+        ensures bad_config { IsErrOf result MakeError.BadConfig
+            ↔ ((1048576 < count) ⊎ (is_config config ≡ false) ⊎ (1048576 < waits)) }
+        ensures made { IfOk result (λ made. IsLatchOf count mode (primitive_in made)) }
+        ensures open { IfOk result (IsOpen config 0 waits 0) }
     {
         if waits > MOST_WAITS || !config.is_in_range() {
             return Err(MakeError::BadConfig);
@@ -116,8 +128,11 @@ impl Numbered {
         config: Config,
         waits: u32,
     ) -> Result<Numbered, MakeError>
-        ensures bad_config { (parties ≡ 0) ⊎ ((32 < parties) ⊎ ((is_config config ≡ false)
-            ⊎ (1048576 < waits))) → IsErrOf result MakeError.BadConfig }
+        ensures bad_config { IsErrOf result MakeError.BadConfig
+            ↔ ((parties ≡ 0) ⊎ (32 < parties) ⊎ (is_config config ≡ false)
+            ⊎ (1048576 < waits)) }
+        ensures made { IfOk result (λ made. IsBarrierOf parties (primitive_in made)) }
+        ensures open { IfOk result (IsOpen config parties waits 0) }
     {
         if waits > MOST_WAITS || !config.is_in_range() {
             return Err(MakeError::BadConfig);
@@ -145,6 +160,8 @@ impl Numbered {
     ) -> Result<Numbered, MakeError>
         requires stands { StandsAt primitive first }
         requires few { passes ≤ 32 }
+        ensures opened { IfOk result (HasOpened primitive first passes waits) }
+        ensures memory { IfErr result (λ error. error ≡ MakeError.Memory) }
     {
         let table = slots(alloc, passes, &primitive)?;
         let made = Numbered {

@@ -37,7 +37,7 @@ impl Numbered {
             return Answer::Crowd;
         }
         match self.claim(number, NOBODY) {
-            Ok((hand, _)) => {
+            Ok((hand, _nobody)) => {
                 self.lay(number, hand, Some(made), RESTS);
                 Answer::Made(number)
             }

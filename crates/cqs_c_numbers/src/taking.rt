@@ -1,9 +1,9 @@
 //! How a call takes its pass, and puts it back.
 
-ghost use Rattle.std.specs.Prelude.{◌≡◌, ◌≢◌, ◌⊎◌, ◌<◌, ◌≤◌, Some, IfOk, IfErr};
+ghost use Rattle.std.specs.Prelude.{◌≡◌, ◌≢◌, ◌⊎◌, ◌<◌, ◌≤◌, IfOk, IfErr};
 ghost use Rattle.cqs_c_numbers.specs.Callers.{StandsAs};
 ghost use Rattle.cqs_c_numbers.specs.Marks.{Suits};
-ghost use Rattle.cqs_c_numbers.specs.Numbered.{Holds, IsLaid};
+ghost use Rattle.cqs_c_numbers.specs.Numbered.{Holds, IsLaid, IsTaken};
 ghost use Rattle.cqs_c_callers.specs.declared.answers.Answer.TheVariants as answer;
 
 use crate::caller::Caller;
@@ -20,6 +20,7 @@ impl Numbered {
         requires free { from ≢ 1 }
         ensures taken { IfOk result (λ taken. Holds self.now pass taken.0
             × Suits self.now.primitive pass from taken.1) }
+        ensures exchanged { IfOk result (λ taken. IsTaken self.now pass from taken.1) }
         ensures other { IfErr result (λ found. found ≢ from) }
     {
         let shared = &self.table.shared;
@@ -53,6 +54,7 @@ impl Numbered {
         ensures inside { IfOk result (λ _. pass < self.now.passes) }
         ensures holds { IfOk result (λ taken. Holds self.now pass taken.0) }
         ensures stands { IfOk result (λ taken. StandsAs self.now.primitive pass taken.1) }
+        ensures taken { IfOk result (λ taken. IsTaken self.now pass 0 (Some taken.1)) }
     {
         if pass >= self.passes {
             return Err(Answer::NoPass);

@@ -5,6 +5,7 @@ pub returns : goal.returns
 returns c = inr (inr (record {
   before = c.in-Ok.taken.1;
   after = c.call-answer.new.caller;
+  taken = c.in-Ok.ensures.taken;
   stood = c.in-Ok.ensures.stands;
   leads = c.call-answer.ensures.answered;
   stands = record {

@@ -5,6 +5,7 @@ pub returns-in-Ok-made : goal.returns-in-Ok-made
 returns-in-Ok-made c = inr (inr (record {
   before = c.in-Ok.taken.1;
   after = c.split-made.new.caller;
+  taken = c.in-Ok.ensures.taken;
   stood = c.in-Ok.ensures.stands;
   splits = inr (record {
     made = c.in-Ok-made.made;
@@ -23,6 +24,7 @@ pub returns-in-Err-made : goal.returns-in-Err-made
 returns-in-Err-made c = inr (inr (record {
   before = c.in-Ok.taken.1;
   after = c.split-made.new.caller;
+  taken = c.in-Ok.ensures.taken;
   stood = c.in-Ok.ensures.stands;
   splits = inl c.in-Err-made.ensures.refused;
   stands = record {

@@ -1,0 +1,40 @@
+-- What `cqs_new` makes, by the numbers of the header.
+use Rattle.std.specs.Prelude.{◌≡◌, ℕ, ◌+◌, ◌*◌, ◌/◌, ◌==◌, if◌then◌else◌, Option, Some, None}
+use Rattle.cqs_rule_laws.specs.declared.config.CancelMode.TheVariants.{Smart, Simple}
+use Rattle.cqs_rule_laws.specs.declared.config.Config.{Config}
+use Rattle.cqs_c_numbers.specs.declared.numbered.Numbered.{Numbered}
+use Rattle.cqs_c_numbers.specs.Making.{IsBarrierOf, IsLatchOf, IsOpen, IsPoolOf, IsSemaphoreOf}
+use Rattle.cqs_c_numbers.specs.Numbered.{primitive_in}
+use Rattle.cqs_c.specs.declared.making.Kind.{Kind}
+use Rattle.cqs_c.specs.declared.making.Kind.TheVariants.{Semaphore, Pool, Latch, Barrier}
+
+-- the kind of this number
+abbrev pub kind_at : ℕ → Option Kind
+kind_at n =
+    if n == 0 then Some Semaphore
+    else if n == 1 then Some Pool
+    else if n == 2 then Some (Latch Smart)
+    else if n == 3 then Some (Latch Simple)
+    else if n == 4 then Some Barrier
+    else None
+
+-- how it is configured: a pool's elements need room for their cells
+abbrev pub config_of : ℕ → ℕ → ℕ → ℕ → Config
+config_of kind size passes limit = record {
+  passes = passes;
+  limit = limit;
+  slots = 2 * passes + 3 + (if kind == 1 then size / 32 else 0);
+}
+
+-- The primitive is of this kind, and of so many permits, elements, counts or parties; its first
+-- pass, under the number 0, has all the parties of a barrier.
+abbrev pub IsOfKind : Option Kind → ℕ → Config → ℕ → Numbered → Type 0
+IsOfKind (Some Semaphore) size config waits n =
+    IsSemaphoreOf size (primitive_in n) × IsOpen config 0 waits 0 n
+IsOfKind (Some Pool) size config waits n =
+    IsPoolOf size (primitive_in n) × IsOpen config 0 waits (size + 1) n
+IsOfKind (Some (Latch mode)) size config waits n =
+    IsLatchOf size mode (primitive_in n) × IsOpen config 0 waits 0 n
+IsOfKind (Some Barrier) size config waits n =
+    IsBarrierOf size (primitive_in n) × IsOpen config size waits 0 n
+IsOfKind None size config waits n = ⊥

@@ -1,0 +1,17 @@
+use Rattle.std.proofs.Common.{◌∙◌, ◌+◌, ap, vec_capacity}
+use Rattle.cqs_rule.specs.Passes.{pass_view}
+use Rattle.cqs_c_numbers.proofs.Opens.{opens-first}
+use Rattle.cqs_c_numbers.proofs.numbered.Numbered.pool.Goals as goal
+
+pub returns-clause-open : goal.returns-clause-open
+returns-clause-open c =
+    let made = c.in_ok-pool.ensures in
+    let first = c.new-first.ensures in
+    let number = ap (λ p. (pass_view p).number) first.pass ∙ made.first in
+    let seen = ap (λ p. (pass_view p).seen) first.pass ∙ made.nothing in
+    let none = ap (λ v. v.items) first.waits ∙ c.in_ok-room.ensures.items in
+    let room = ap (λ v. vec_capacity v) first.waits ∙ c.in_ok-room.ensures.exact in
+    let no_elements = ap (λ v. v.items) first.elements ∙ c.in_ok-elements.ensures.items in
+    let places = ap (λ v. vec_capacity v) first.elements ∙ c.in_ok-elements.ensures.exact in
+    opens-first c.args.config 0 c.args.waits (c.args.size + 1) _ _ c.open.result made.passes.0 made.passes.1
+    first.stands number (seen, none, room, no_elements, places) c.open.ensures.opened

@@ -4,9 +4,9 @@ use Rattle.crossbeam_queue.specs.Passes.{view}
 use Rattle.cqs_rule_laws.specs.declared.config.AcquireError.{AcquireError}
 use Rattle.cqs_rule_laws.specs.declared.config.Config.{Config}
 use Rattle.cqs_rule_laws.specs.declared.view.View.{View}
-use Rattle.cqs_rule_laws.specs.Crew.{Came}
-use Rattle.cqs_rule_laws.specs.Views as crew
-use Rattle.cqs_rule.specs.Passes.{pass_view, passes_of, limit_of}
+use Rattle.cqs_rule_laws.specs.Lists.{IsPrefix, part}
+use Rattle.cqs_rule_laws.specs.Views.{first_facts}
+use Rattle.cqs_rule.specs.Passes.{pass_view, limit_of}
 use Rattle.cqs_rule.specs.declared.queue.tokens.Wait.{Wait}
 use Rattle.cqs_rule.specs.Seats.{HasMet}
 use Rattle.cqs_rule.specs.Waits.{HasWait}
@@ -20,7 +20,6 @@ use Rattle.cqs_pool.specs.declared.answers.Taking.TheVariants as taking
 use Rattle.cqs_pool.specs.declared.element.Element.{Element}
 use Rattle.cqs_pool.specs.Elements.{number_of}
 use Rattle.cqs_pool.specs.Pool.{pool_object}
-use Rattle.cqs_pool.specs.Seats.{LookedOn}
 use Rattle.cqs_mailbox.specs.declared.answers.Received.{Received}
 use Rattle.cqs_mailbox.specs.declared.answers.Received.TheVariants as received
 use Rattle.cqs_mailbox.specs.declared.answers.Room.{Room}
@@ -126,30 +125,18 @@ pub record IsNewPost (s : ℕ) (p : Post) : Type 0 where
   pub letters : view p.letters ≡ known.Post s []
   pub replies : view p.replies ≡ tally.Post 0
   pub out : out_with p ≡ []
-  pub facts : (line_view p).facts ≡ crew.first_facts 0
+  pub facts : (line_view p).facts ≡ first_facts 0
 
--- the desk made a post, which has the next number
+-- The desk made a post, which has the next number and has seen of the pool what the desk has. No
+-- entry that it has seen names its pass.
 pub record HasHired (d : Desk) (p : Post) (e : Desk) : Type 0 where
   pub new : IsNewPost (posts_of d) p
   pub letters : view e.letters ≡ hiring (view d.letters)
   pub replies : IsCalledFor (sender_of p) (λ v w. w ≡ desk_part v) d.replies.items e.replies.items
-  pub looked : LookedOn (pass_view d.pool) (pass_view e.pool)
-  pub came : Came pool_object (pass_view e.pool) (line_view p)
-
--- As many posts were made as there may be: by the count of the desk, or by what it found at the
--- pool's word that counts passes.
-abbrev pub IsCrowded : Mailbox → Desk → Desk → Type 0
-IsCrowded m d e =
-    (most_posts m ≤ posts_of d) ⊎ (passes_of m.pool.queue ≤ crew.made_in (pass_view e.pool).crew)
-
--- the desk is as it was, or has looked on in the pool and is as it was otherwise
-pub record HasOnlyLooked (d e : Desk) : Type 0 where
-  pub looked : LookedOn (pass_view d.pool) (pass_view e.pool)
-  pub letters : e.letters ≡ d.letters
-  pub replies : e.replies ≡ d.replies
-
-abbrev pub IsRefused : Desk → Desk → Type 0
-IsRefused d e = (e ≡ d) ⊎ HasOnlyLooked d e
+  pub pool : pass_view e.pool ≡ pass_view d.pool
+  pub sees : IsPrefix (pass_view d.pool).seen (line_view p).seen
+  pub own : (line_view p).own ≡ (line_view p).number ∷ []
+  pub unnamed : part pool_object.names (line_view p).number (line_view p).seen ≡ []
 
 -- The post has met the desk: what the desk received of it is a prefix of what it had sent, and it
 -- took no more acknowledgements than the desk gave it. The envelopes that are out stay in the

@@ -1,6 +1,6 @@
 -- What contracts see of a mailbox, of its desk and of its posts, and what holds of them between two
 -- calls.
-use Rattle.std.specs.Prelude.{◌≡◌, ℕ, ◌+◌, ◌<◌, ◌≤◌, List, map, length}
+use Rattle.std.specs.Prelude.{◌≡◌, ℕ, ◌+◌, ◌-◌, ◌<◌, ◌≤◌, List, map, length}
 use Rattle.std.specs.VecDeque.{deque_capacity}
 use Rattle.crossbeam_queue.specs.Passes.{view, IsPassOf, ruled_capacity}
 use Rattle.cqs_pool_object.specs.declared.entries.PoolEntry.{PoolEntry}
@@ -19,6 +19,7 @@ use Rattle.cqs_mailbox.specs.declared.mailbox.Mailbox.{Mailbox}
 use Rattle.cqs_mailbox.specs.declared.mailbox.Post.{Post}
 use Rattle.cqs_mailbox.specs.Mail.{IsDesk, IsPost, made_in, of_sender, received_in, sent_in}
 use Rattle.cqs_mailbox.specs.Senders.{AreForSenders, IsOfSender, given_to}
+use Rattle.cqs_mailbox.specs.Spare.{AreSpare}
 use Rattle.cqs_mailbox.specs.Tallies.{taken_in}
 
 -- how many envelopes there are, and how many posts there may be
@@ -101,5 +102,6 @@ pub record IsDeskOf (m : Mailbox) (d : Desk) : Type 0 where
   pub desk : IsDesk (view d.letters)
   pub posts : d.posts ≡ posts_of d
   pub few : posts_of d ≤ most_posts m
+  pub spare : AreSpare m.pool (most_posts m - posts_of d) d.spare.items
   pub replies : AreForSenders (room_of m) (posts_of d) m.replies.items d.replies.items
   pub due : (s : ℕ) → acknowledged_to s d ≤ length (of_sender s (received_by d))

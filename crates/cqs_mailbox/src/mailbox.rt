@@ -23,6 +23,9 @@ pub struct Mailbox {
 pub struct Desk {
     pub(crate) posts: u32,
     pub(crate) pool: PoolPass,
+    // The passes of the posts that aren't made yet. They are made with the mailbox, so a post finds
+    // its pass whatever else was done at the pool.
+    pub(crate) spare: Vec<PoolPass>,
     pub(crate) letters: LettersPass,
     pub(crate) replies: Vec<RepliesPass>,
 }

@@ -2,14 +2,18 @@
 
 ghost use Rattle.std.specs.Prelude.{◌≡◌, ◌⊎◌, ◌<◌, ◌≤◌, false, IfOk, IfSome, IsErrOf, IsNone, OnSome};
 ghost use mathlib.Core.Logic.{◌↔◌};
+ghost use Rattle.cqs_rule_laws.specs.CallRule.{IsReady};
 ghost use Rattle.cqs_rule_laws.specs.Configured.{is_config};
+ghost use Rattle.cqs_rule.specs.Passes.{pass_view};
+ghost use Rattle.cqs_pool.specs.Calls.{IsMine};
 ghost use Rattle.cqs_mailbox.specs.Calls.{AreNewParts, IsNewMailbox, config_for};
 ghost use Rattle.cqs_mailbox.specs.Mailboxes.{IsDeskOf, IsPostOf};
+ghost use Rattle.cqs_mailbox.specs.Spare.{AreSpare};
 
 use crate::letters;
 use crate::mailbox::{Desk, Mailbox, Post};
 use crate::senders::open_all;
-use cqs_pool::Pool;
+use cqs_pool::{Pool, PoolPass};
 use cqs_rule::{Config, MakeError};
 use std::alloc::Global;
 
@@ -42,7 +46,6 @@ impl Mailbox {
         };
         match mailbox.split(alloc, &mut desk) {
             Ok(post) => Ok((mailbox, desk, post)),
-            // No clause of the pool says that it has a pass for the first post, but it has.
             Err(_) => Err(MakeError::Memory),
         }
     }
@@ -64,9 +67,12 @@ fn make_parts(
     let Some(config) = config_of(room, passes, limit) else {
         return Err(MakeError::BadConfig);
     };
-    let (pool, line) = match Pool::new(alloc, room, config) {
+    let (pool, mut line) = match Pool::new(alloc, room, config) {
         Ok(made) => made,
         Err(error) => return Err(error),
+    };
+    let Ok(spare) = rest_all(alloc, &pool, &mut line, passes - 1) else {
+        return Err(MakeError::Memory);
     };
     let Ok((letters, all)) = letters::open(alloc, room as usize) else {
         return Err(MakeError::Memory);
@@ -82,10 +88,37 @@ fn make_parts(
     let desk = Desk {
         posts: 0,
         pool: line,
+        spare,
         letters: all,
         replies: each,
     };
     Ok((mailbox, desk))
+}
+
+// The passes of so many posts, each of which rests until its post is made.
+fn rest_all(
+    alloc: Global,
+    pool: &Pool,
+    line: &mut PoolPass,
+    posts: u32,
+) -> Result<Vec<PoolPass>, MakeError>
+    requires belongs { IsMine pool.now line.old }
+    requires ready { IsReady (pass_view line.old).facts }
+    ensures belongs { IsMine pool.now line.new }
+    ensures ready { IsReady (pass_view line.new).facts }
+    ensures spare { IfOk result (λ made. AreSpare pool.now posts made.items) }
+{
+    let mut made = Vec::new(alloc);
+    for _post in 0..posts {
+        let Ok(pass) = pool.split(line) else {
+            // No clause of the pool says that it has so many passes, but it has.
+            return Err(MakeError::Memory);
+        };
+        let Ok(()) = made.push(pass) else {
+            return Err(MakeError::Memory);
+        };
+    }
+    Ok(made)
 }
 
 // How the pool of the envelopes is made.

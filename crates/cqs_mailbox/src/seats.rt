@@ -4,7 +4,7 @@ ghost use Rattle.std.specs.Prelude.{◌≡◌, ◌<◌, ◌≤◌, IsErr, IsErrO
 ghost use mathlib.Core.Logic.{◌↔◌};
 ghost use Rattle.cqs_rule_laws.specs.Crew.{IsBetween};
 ghost use Rattle.cqs_rule.specs.Seats.{IsBusy};
-ghost use Rattle.cqs_mailbox.specs.Calls.{HasHired, HasTakenIn, IsCrowded, IsRefused};
+ghost use Rattle.cqs_mailbox.specs.Calls.{HasHired, HasTakenIn};
 ghost use Rattle.cqs_mailbox.specs.Mailboxes.{IsDeskOf, IsPostOf, line_view, most_posts, posts_of};
 
 use crate::answers::SplitError;
@@ -12,23 +12,20 @@ use crate::letters::hire;
 use crate::mailbox::{Desk, Mailbox, Post};
 use crate::replies::part;
 use crate::{letters, replies};
-use cqs_rule::{Crowd, MeetError};
+use cqs_rule::MeetError;
 use std::alloc::Global;
 use std::collections::VecDeque;
 
 impl Mailbox {
     /// A new post, which has the next sender number, has sent nothing, and may have an envelope of
-    /// each letter out. Where there is no memory for these, no pass was made.
+    /// each letter out. It is refused where as many were made as there are passes beside the
+    /// desk's, or else where there is no memory for these envelopes.
     pub fn split(&self, alloc: Global, desk: &mut Desk) -> Result<Post, SplitError>
         requires belongs { IsDeskOf self.now desk.old }
         ensures belongs { IsDeskOf self.now desk.new }
-        ensures memory { IsErrOf result SplitError.Memory → desk.new ≡ desk.old }
         ensures crowd { IsErrOf result SplitError.Crowd
-            → IsCrowded self.now desk.old desk.new }
-        ensures room { OnOk result (IsCrowded self.now desk.old desk.new → ⊥) }
-        ensures full { most_posts self.now ≤ posts_of desk.old
-            → IsErrOf result SplitError.Crowd }
-        ensures refused { OnErr result (IsRefused desk.old desk.new) }
+            ↔ (most_posts self.now ≤ posts_of desk.old) }
+        ensures unchanged { OnErr result (desk.new ≡ desk.old) }
         ensures new_belongs { IfOk result (λ post. IsPostOf self.now post) }
         ensures hired { IfOk result (λ post. HasHired desk.old post desk.new) }
     {
@@ -40,9 +37,10 @@ impl Mailbox {
         let Ok(sent) = VecDeque::with_capacity(alloc, self.letters.capacity()) else {
             return Err(SplitError::Memory);
         };
-        let Ok(pool) = self.pool.split(&mut desk.pool) else {
-            return Err(SplitError::Crowd);
+        let Some(mut pool) = desk.spare.pop() else {
+            unreachable!();
         };
+        self.pool.catch_up(&mut pool, &mut desk.pool);
         desk.posts = sender + 1;
         Ok(Post {
             sender,

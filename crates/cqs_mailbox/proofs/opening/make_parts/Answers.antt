@@ -10,5 +10,6 @@ returns-clause-desk c =
     let passes : c.in-Some.config.passes ≡ c.args.passes = ap (λ (x : Config). x.passes) c.in-Some.ensures.some in
     parts-desk _ _ c.args.room c.args.passes c.in-Ok.ensures.size c.in-Ok-open.ensures.room
     (omega (arith, many, range.1))
-    (c.in-Ok.ensures.passes.0 ∙ passes) range.2 c.in-Ok.ensures.belongs c.in-Ok.ensures.ready.ready
-    c.in-Ok-open.ensures.belongs c.in-Ok-open.ensures.knows refl c.in-Ok-open_all.ensures.each
+    (c.in-Ok.ensures.passes.0 ∙ passes) range.2 c.rest_all.ensures.belongs c.rest_all.ensures.ready
+    c.in-Ok-rest_all.ensures.spare c.in-Ok-open.ensures.belongs c.in-Ok-open.ensures.knows refl
+    c.in-Ok-open_all.ensures.each

@@ -33,7 +33,7 @@ returns-in-Ok-clause-belongs g c =
     let which = queue-at _ _ _ low c.index.ensures in
     let there = pass-at _ _ _ _ b low c.index_mut.ensures.value in
     let desk = (b.replies.each _ _ _ which there).desk in
-    desk-set _ _ _ b refl refl refl
+    desk-set _ _ _ b refl refl refl refl
     (senders-set _ _ _ _ _ _ _ _ _ b.replies (omega arith) which there c.give.ensures.queue c.give.ensures.is_desk
     c.requires.due.made)
     (due-given _ _ _ _ _ there desk c.in-Ok.ensures.gave c.requires.due.more b.due)
@@ -44,7 +44,7 @@ returns-in-Err-clause-belongs g c =
     let low = low-sender _ _ _ b c.requires.due.made in
     let which = queue-at _ _ _ low c.index.ensures in
     let there = pass-at _ _ _ _ b low c.index_mut.ensures.value in
-    desk-set _ _ _ b refl refl refl
+    desk-set _ _ _ b refl refl refl refl
     (senders-set _ _ _ _ _ _ _ _ _ b.replies (omega arith) which there c.give.ensures.queue c.give.ensures.is_desk
     c.requires.due.made)
     (λ s. due-kept _ s _ _ _ _ there (ap given_in c.in-Err.ensures.gave.0) (b.due s))

@@ -63,7 +63,7 @@ returns-clause-belongs c =
     get-below _ _ _ c.requires.post_belongs.replies.there in
     let which = queue-at _ _ _ low c.index.ensures in
     let there = pass-at _ _ _ _ b low c.index_mut.ensures.value in
-    met-kept _ _ _ (view c.args.post.letters) b c.meet.ensures.belongs c.meet.ensures.ready c.join.ensures.queue
+    met-kept _ _ _ (view c.args.post.letters) b c.meet.ensures.belongs c.meet.ensures.ready refl c.join.ensures.queue
     c.join.ensures.is_desk c.join.ensures.met refl
     (senders-set _ _ _ _ _ _ _ _ _ b.replies (omega arith) which there (c.join-2).ensures.queue
     (c.join-2).ensures.is_desk c.join.ensures.low)

@@ -5,13 +5,13 @@ use Rattle.cqs_mailbox.proofs.mailbox.Mailbox.receive.Goals as goal
 
 pub returns-in-Some-clause-belongs : goal.returns-in-Some-clause-belongs
 returns-in-Some-clause-belongs g c =
-    received-kept _ _ _ _ c.take.result c.requires.belongs refl refl refl c.take.ensures.queue c.take.ensures.is_desk
-    c.take.ensures.took
+    received-kept _ _ _ _ c.take.result c.requires.belongs refl refl refl refl c.take.ensures.queue
+    c.take.ensures.is_desk c.take.ensures.took
 
 pub returns-in-None-clause-belongs : goal.returns-in-None-clause-belongs
 returns-in-None-clause-belongs g c =
-    received-kept _ _ _ _ c.take.result c.requires.belongs refl refl refl c.take.ensures.queue c.take.ensures.is_desk
-    c.take.ensures.took
+    received-kept _ _ _ _ c.take.result c.requires.belongs refl refl refl refl c.take.ensures.queue
+    c.take.ensures.is_desk c.take.ensures.took
 
 pub returns-in-Some-clause-posts : goal.returns-in-Some-clause-posts
 returns-in-Some-clause-posts g c = posts-after _ _ _ c.take.result c.take.ensures.took

@@ -22,6 +22,12 @@ const LOOKS: u64 = 64;
 /// So many waiters stand in line where rounds are made behind them.
 pub const LIVE: usize = 1000;
 
+/// For so many letters there is room.
+pub const ROOM: usize = 64;
+
+/// A letter: who sends it, its number among the letters of its sender, and what it says.
+pub type Letter = (u32, u64, u64);
+
 /// How a caller waits.
 #[derive(Clone, Copy, PartialEq)]
 pub enum Waiting {
@@ -92,6 +98,39 @@ impl Bench {
         });
     }
 
+    /// Prints a row of letters that so many threads send, each as many, to another that receives them. `open` makes a channel, `send` sends a
+    /// letter by it, and `receive` waits for one.
+    pub fn letters<S: Clone + Send, R: Send>(
+        &self,
+        peer: &str,
+        senders: u32,
+        waiting: Waiting,
+        open: impl Fn() -> (S, R),
+        send: impl Fn(&S, Letter) + Sync,
+        receive: impl Fn(&mut R) -> Letter + Sync,
+    ) {
+        let rounds = match waiting {
+            Waiting::Looks => self.rounds,
+            Waiting::Sleeps => self.rounds / SLEEP,
+        };
+        let each = rounds / u64::from(senders);
+        let count = each * u64::from(senders);
+        self.row(peer, "mailbox", u64::from(senders) + 1, count, |count| {
+            let (sender, mut receiver) = open();
+            clock(|| {
+                thread::scope(|scope| {
+                    for name in 0..senders {
+                        let sender = sender.clone();
+                        let send = &send;
+                        scope.spawn(move || (0..each).for_each(|number| send(&sender, (name, number, 1))));
+                    }
+                    let words: u64 = (0..count).map(|_| receive(&mut receiver).2).sum();
+                    assert!(words == count);
+                })
+            })
+        });
+    }
+
     /// Prints a row of so many rounds.
     pub fn row(&self, peer: &str, word: &str, threads: u64, count: u64, run: impl Fn(u64) -> u64) {
         let mut each: Vec<f64> = (0..self.runs).map(|_| run(count) as f64 / count as f64).collect();
@@ -117,6 +156,19 @@ pub fn work(word: &mut u64) {
     }
 }
 
+/// Tries until it comes, and lets another thread run after each 64 looks.
+pub fn look_until<T>(mut come: impl FnMut() -> Option<T>) -> T {
+    for round in 0u64.. {
+        if let Some(output) = come() {
+            return output;
+        }
+        if round % LOOKS == LOOKS - 1 {
+            thread::yield_now();
+        }
+    }
+    unreachable!()
+}
+
 /// Polls a future once, as somebody who will look again himself.
 pub fn look<F: Future>(future: std::pin::Pin<&mut F>) -> Option<F::Output> {
     match future.poll(&mut Context::from_waker(Waker::noop())) {
@@ -137,14 +189,7 @@ impl Wake for Sleeper {
 pub fn wait<F: Future>(waiting: Waiting, future: F) -> F::Output {
     let mut future = pin!(future);
     if waiting == Waiting::Looks {
-        for round in 0u64.. {
-            if let Some(output) = look(future.as_mut()) {
-                return output;
-            }
-            if round % LOOKS == LOOKS - 1 {
-                thread::yield_now();
-            }
-        }
+        return look_until(|| look(future.as_mut()));
     }
     // A waker is made where the future isn't ready at once, as an executor has one at hand.
     thread_local! { static WAKER: Waker = Waker::from(Arc::new(Sleeper(thread::current()))); }

@@ -1,7 +1,8 @@
 //! What one writes with a mutex and a condition variable, of the standard library and of parking_lot: a semaphore, a pool, a latch and a
-//! barrier; and their mutexes themselves. None of these keeps a line: who comes first has it.
+//! barrier; their mutexes themselves; and the bounded channel of the standard library. None of these keeps a line: who comes first has it.
 
-use peers::{clock, work, Bench, Waiting};
+use peers::{clock, look_until, work, Bench, Letter, Waiting, ROOM};
+use std::sync::mpsc::{sync_channel, Receiver, SyncSender};
 
 /// The same rounds over two crates, whose locks are alike but for the answer of `lock`.
 macro_rules! rounds {
@@ -144,6 +145,14 @@ fn main() {
             work(word);
             drop(guard);
         });
+    }
+    for senders in [1, 4] {
+        let open = || sync_channel::<Letter>(ROOM);
+        let send_so = |sender: &SyncSender<Letter>, letter| look_until(|| sender.try_send(letter).ok());
+        let receive_so = |receiver: &mut Receiver<Letter>| look_until(|| receiver.try_recv().ok());
+        bench.letters("std-poll", senders, Waiting::Looks, open, send_so, receive_so);
+        let send = |sender: &SyncSender<Letter>, letter| sender.send(letter).unwrap();
+        bench.letters("std", senders, Waiting::Sleeps, open, send, |receiver| receiver.recv().unwrap());
     }
     #[cfg(feature = "parking_lot")]
     of_parking_lot::tell(&bench);

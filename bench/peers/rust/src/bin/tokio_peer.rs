@@ -1,9 +1,9 @@
-//! tokio's semaphore, and what is made of it: a mutex, a pool, a barrier. It has no latch.
+//! tokio's semaphore, and what is made of it: a mutex, a pool, a barrier; and its bounded channel. It has no latch.
 
-use peers::{clock, look, wait, work, Bench, Waiting, LIVE};
+use peers::{clock, look, wait, work, Bench, Letter, Waiting, LIVE, ROOM};
 use std::pin::{pin, Pin};
 use std::sync::Mutex as StdMutex;
-use tokio::sync::{Barrier, Mutex, Semaphore};
+use tokio::sync::{mpsc, Barrier, Mutex, Semaphore};
 
 /// A free permit is taken and given back.
 fn free(count: u64) -> u64 {
@@ -100,5 +100,10 @@ fn main() {
         bench.together(peer, "barrier", || Barrier::new(4), |barrier| {
             wait(waiting, barrier.wait());
         });
+        for senders in [1, 4] {
+            let open = || mpsc::channel::<Letter>(ROOM);
+            let send = |sender: &mpsc::Sender<Letter>, letter| wait(waiting, sender.send(letter)).unwrap();
+            bench.letters(peer, senders, waiting, open, send, |receiver| wait(waiting, receiver.recv()).unwrap());
+        }
     }
 }

@@ -101,6 +101,10 @@ module _ (plan : Plan) (valid : IsValid plan) where
       at = λ place job there.
           let fits = all-at (IsJob plan.resources) plan.jobs place job valid.jobs there in fits.few;
     };
+    few_retries = record {
+      at = λ place job there.
+          let fits = all-at (IsJob plan.resources) plan.jobs place job valid.jobs there in fits.retry;
+    };
     steps = record {
       at = λ place job there.
           let fits = all-at (IsJob plan.resources) plan.jobs place job valid.jobs there in

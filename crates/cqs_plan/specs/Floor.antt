@@ -1,13 +1,14 @@
 -- The plain floor: what contracts see of a floor. One caller makes all its calls, as pass 0.
 use Rattle.std.specs.Prelude.{◌≡◌, ℕ, ◌+◌, ◌-◌, ◌<◌, List, [], ◌∷◌, ◌++◌, Bool, false, Option, Some, None, IsSome, length, map, replicate, sum_by, count_by, find, ◌==◌, slice_get, slice_index, slice_index_or, slice_set, if◌then◌else◌}
 use Rattle.std.specs.Option.{option_map_or}
-use Rattle.std.specs.List.{range_with_len}
+use Rattle.std.specs.List.{list_any, range_with_len}
 use Rattle.cqs_core.specs.Keyed.{without}
 use Rattle.cqs_plan.specs.FloorHistory.{History, of_permits, Deed, Standing, no_history, with_deed_in, standing_in, first_free, came_for, to_come}
 use Rattle.cqs_plan.specs.declared.plans.kind.Kind.{Kind}
 use Rattle.cqs_plan.specs.declared.plans.kind.Kind.TheVariants as kind
+use Rattle.cqs_plan.specs.declared.plans.job.Job.{Job}
 use Rattle.cqs_plan.specs.declared.plans.plan.Plan.{Plan}
-use Rattle.cqs_plan.specs.Language.{can_hold}
+use Rattle.cqs_plan.specs.Language.{can_hold, is_barrier}
 use Rattle.cqs_plan.specs.PlanSteps.{may_wait}
 
 -- the wait of a job: the place of its resource, the round where that is a barrier, and its number
@@ -34,7 +35,8 @@ pub record PlainFloor : Type 0 where
   pub waits : List (Option JobWait)
   -- for each job what it holds, oldest first
   pub holds : List (List Holding)
-  -- for each job how often it arrived at each resource, which is the round of its next arrival
+  -- for each job how often it arrived at each resource and didn't take that back, which is the
+  -- round of its next arrival
   pub rounds : List (List ℕ)
 
 -- what happened at a resource
@@ -184,17 +186,40 @@ with_arrived f job at =
           (slice_set (own_rounds f job) at (round_of f job at + 1));
     }
 
+-- there is a barrier
+abbrev pub is_barrier_in : List Kind → ℕ → Bool
+is_barrier_in kinds at = option_map_or is_barrier (slice_get kinds at) false
+
+-- in which rounds the jobs arrive next, where a job took back its arrival: it arrives in that round
+-- again. Nothing but a barrier has rounds
+abbrev pub rounds_back : List Kind → List (List ℕ) → ℕ → JobWait → List (List ℕ)
+rounds_back kinds rounds job wait =
+    if is_barrier_in kinds wait.at
+    then slice_set rounds job (slice_set (slice_index_or rounds job []) wait.at wait.round)
+    else rounds
+
+abbrev pub with_back : PlainFloor → ℕ → JobWait → PlainFloor
+with_back f job wait = record f { rounds = rounds_back f.kinds f.rounds job wait }
+
 -- the oldest that the job holds of a resource is gone
 abbrev pub without_oldest : PlainFloor → ℕ → ℕ → PlainFloor
 without_oldest f job at =
     record f { holds = slice_set f.holds job (without (λ h. h.at) at (holds_of f job)) }
 
--- how many steps a plan has that may have to wait at a resource
+-- what a job may do so often at a resource where a step of it may have to wait
+abbrev pub times_at : ℕ → Job → ℕ → ℕ
+times_at at job times = if list_any (may_wait at) job.steps then times else 0
+
+-- how often a job may begin to wait at a resource: once for each step that may have to wait there,
+-- and once for each retry
+abbrev pub waits_of_job : ℕ → Job → ℕ
+waits_of_job at job = count_by (may_wait at) job.steps + times_at at job job.retry
+
 abbrev pub room_for : Plan → ℕ → ℕ
-room_for plan at = sum_by (λ job. count_by (may_wait at) job.steps) plan.jobs
+room_for plan at = sum_by (waits_of_job at) plan.jobs
 
 -- the floor on which a plan begins: nothing has happened, each resource has room for the plan's
--- takes, waits and arrivals, and each job is in the first round of each barrier
+-- takes, waits and arrivals, with all retries, and each job is in the first round of each barrier
 abbrev pub opening_floor : Plan → PlainFloor
 opening_floor plan = record {
   kinds = map (λ resource. resource.kind) plan.resources;

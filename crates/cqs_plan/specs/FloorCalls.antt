@@ -16,7 +16,7 @@ use Rattle.cqs_plan.specs.declared.floors.answers.FloorDown.{FloorDown}
 use Rattle.cqs_plan.specs.declared.floors.answers.FloorDown.TheVariants.{Left, Last, Already}
 use Rattle.cqs_plan.specs.declared.floors.answers.FloorEnd.{FloorEnd}
 use Rattle.cqs_plan.specs.FloorHistory.{Deed, takes, joins, frees, sends, gets, leaves, is_late, passes, counts, opens, is_open, completes, ending}
-use Rattle.cqs_plan.specs.Floor.{PlainFloor, JobWait, Holding, size_at, history_at, standing_at, stands_in, to_come_at, first_free_at, came_to, wait_of, holds_of, round_of, oldest, with_done, with_done_in, with_less_room, with_wait, with_newest, with_came, with_arrived, without_oldest}
+use Rattle.cqs_plan.specs.Floor.{PlainFloor, JobWait, Holding, size_at, history_at, standing_at, stands_in, to_come_at, first_free_at, came_to, wait_of, holds_of, round_of, oldest, with_done, with_done_in, with_less_room, with_wait, with_newest, with_came, with_arrived, with_back, without_oldest}
 
 -- take: at once where something is free, else in the line under the next number
 abbrev pub take_answer : PlainFloor → ℕ → ℕ → FloorTake
@@ -84,11 +84,12 @@ leave_of f (Some wait) = if is_in_line f wait then Gone else Late (came_to f wai
 abbrev pub leave_answer : PlainFloor → ℕ → FloorLeave
 leave_answer f job = leave_of f (wait_of f job)
 
--- the wait of the job is gone
+-- the wait of the job is gone, and with it an arrival that waited
 abbrev pub with_left : PlainFloor → ℕ → Option JobWait → PlainFloor
 with_left f job None = f
 with_left f job (Some wait) =
-    with_wait (with_done_in f wait.at wait.round (leaves wait.number)) job None
+    with_back (with_wait (with_done_in f wait.at wait.round (leaves wait.number)) job None)
+    job wait
 
 -- a job that was late has what came
 abbrev pub after_leave : PlainFloor → ℕ → FloorLeave → PlainFloor

@@ -44,6 +44,7 @@ pub record IsRunnable (plan : Plan) : Type 0 where
   pub resources : length plan.resources ≤ 64
   pub jobs : length plan.jobs ≤ 4096
   pub few_steps : EachAt (λ place job. length job.steps ≤ 64) plan.jobs
+  pub few_retries : EachAt (λ place job. job.retry ≤ 64) plan.jobs
   pub steps : EachAt (λ place job. AreMakeable (kinds_of plan.resources) job.steps) plan.jobs
   -- no more jobs arrive at a barrier than it has parties
   pub parties : EachAt

@@ -1,5 +1,5 @@
 -- What every plan keeps to.
-use Rattle.std.specs.Prelude.{◌≡◌, ◌≢◌, ℕ, ◌≤◌, Bool, IsTrue, List, length, take, All, AllPairs, Some, IfSome, IsSomeAnd, slice_get}
+use Rattle.std.specs.Prelude.{◌≡◌, ◌≢◌, ℕ, ◌≤◌, Bool, IsTrue, List, length, take, All, AllPairs, Some, None, IfSome, IsSomeAnd, slice_get}
 use Rattle.std.specs.Int.{IsInRange}
 use Rattle.cqs_core.specs.Numbered.{EachAt}
 use Rattle.cqs_plan.specs.declared.plans.job.Job.{Job}
@@ -53,19 +53,27 @@ ArrivesInRounds resources steps = (i place : ℕ) → slice_get steps i ≡ Some
 pub record IsJob (resources : List Resource) (job : Job) : Type 0 where
   pub named : IsTrue (is_name job.name)
   pub deadline : IfSome job.deadline (λ turn. turn ≤ 40000)
+  pub within : IfSome job.within (λ turns. IsInRange 1 40000 turns)
+  pub retry : job.retry ≤ 64
   pub few : length job.steps ≤ 64
   pub steps : All (IsStep resources) job.steps
   pub gives : GivesWhatItTook job.steps
   pub arrives : ArrivesInRounds resources job.steps
 
+-- a job of version 1, whose waits may last until its deadline, and are never begun again
+pub record IsPatient (job : Job) : Type 0 where
+  pub within : job.within ≡ None
+  pub retry : job.retry ≡ 0
+
 pub record IsValid (plan : Plan) : Type 0 where
-  pub version : plan.version ≡ 1
+  pub version : IsInRange 1 2 plan.version
   pub turns : IsInRange 1 40000 plan.turns
   pub few_resources : length plan.resources ≤ 64
   pub resources : All IsResource plan.resources
   pub order : AreInOrder plan.resources
   pub few_jobs : length plan.jobs ≤ 4096
   pub jobs : All (IsJob plan.resources) plan.jobs
+  pub patient : plan.version ≡ 1 → All IsPatient plan.jobs
   -- no more jobs arrive at a barrier than it has parties
   pub parties : EachAt
       (λ at resource. IsTrue (has_parties resource.kind (arriving at plan.jobs))) plan.resources

@@ -69,6 +69,8 @@ job-is : (i a b c : ℕ) → i < 4096 → IsJob resources (job_of i a b c)
 job-is i a b c below = record {
   named = name-is i below;
   deadline = in-time c;
+  within = tt;
+  retry = omega arith;
   few = few-steps a b;
   steps = steps-are a b;
   gives = gives-none a b;
@@ -119,7 +121,7 @@ module _ (number jobs : ℕ) (some : 1 ≤ jobs) (few : jobs ≤ 4096) where
 
   pub generated-valid : IsValid (plan_of_number number jobs)
   generated-valid = record {
-    version = refl;
+    version = (omega arith, omega arith);
     turns = (omega arith, omega arith);
     few_resources = omega arith;
     resources = each-resource;
@@ -129,6 +131,9 @@ module _ (number jobs : ℕ) (some : 1 ≤ jobs) (few : jobs ≤ 4096) where
         let inside : k < jobs = rw (← many) below in
         rw (at-place k d inside)
         (job-is k (draw number (3 * k)) (draw number (3 * k + 1)) (draw number (3 * k + 2)) (omega arith));
+    patient = λ first k d below.
+        let inside : k < jobs = rw (← many) below in
+        rw (at-place k d inside) (record { within = refl; retry = refl });
     parties = record { at = λ at r there. no-parties (arriving at (plan_of_number number jobs).jobs) at r there };
     names = λ i j d less below.
         let inside : j < jobs = rw (← many) below in

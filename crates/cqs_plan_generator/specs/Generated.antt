@@ -32,6 +32,8 @@ job_of i a b c = record {
   name = codes "j" ++ decimal i;
   steps = steps_of a b;
   deadline = deadline_of c;
+  within = None;
+  retry = 0;
 }
 
 -- each job has the next three numbers that are drawn

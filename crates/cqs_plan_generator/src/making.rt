@@ -79,6 +79,8 @@ fn make_job(alloc: Global, draws: &mut Draws, index: u32) -> Result<Job, Memory>
         name: job_name(alloc, index)?,
         steps: make_steps(alloc, first, second)?,
         deadline: make_deadline(third),
+        within: None,
+        retry: 0,
     })
 }
 

@@ -207,6 +207,8 @@ table_job resources job = record {
   name = text_in (get_member (codes "name") job);
   steps = steps_in resources (items_in (get_member (codes "steps") job));
   deadline = option_map (λ d. number_in (Some d)) (get_member (codes "deadline") job);
+  within = None;
+  retry = 0;
 }
 
 job_name-table : (value : Data) (job : Members) → as_table value ≡ Some job
@@ -231,6 +233,8 @@ table_job-valid resources job named steps deadline =
     let as_many = length-all_some (step_in resources) values (all_some resources values steps) in record {
       named = named;
       deadline = deadline;
+      within = tt;
+      retry = omega arith;
       few = rw as_many steps.few;
       steps = steps-valid resources values steps;
       gives = gives-valid resources values steps;

@@ -21,7 +21,7 @@ use Rattle.cqs_plan_reader.specs.Faults.{arriving_jobs_faults, barrier_faults, b
 use Rattle.cqs_plan_reader.specs.Meaning.{items_in, items_list, job_in, job_name, plan_in, resources_in}
 use Rattle.cqs_plan_reader.specs.PlanText.{IsPlanText}
 use Rattle.cqs_plan_reader.specs.Sections.{AreFound}
-use Rattle.cqs_plan.specs.Validity.{IsJob, IsValid}
+use Rattle.cqs_plan.specs.Validity.{IsJob, IsPatient, IsValid}
 use Rattle.cqs_plan_reader.proofs.ValidNumbers.{no_faults, unless-passed, required_number-valid, shaped-right, each-faultless}
 use Rattle.cqs_plan_reader.proofs.ValidJobs.{items_in-there, nothing, job-valid}
 
@@ -73,6 +73,12 @@ all-jobs resources values jobs = λ k d below.
     let inside : k < length values = rw (← length-map values (job_in resources)) below in
     rw (get_or-map (job_in resources) values k nothing d inside) (jobs.each k nothing inside)
 
+-- the jobs of version 1
+all-patient : (resources : List Resource) (values : List Data) → All IsPatient (map (job_in resources) values)
+all-patient resources values = λ k d below.
+    let inside : k < length values = rw (← length-map values (job_in resources)) below in
+    rw (get_or-map (job_in resources) values k nothing d inside) (record { within = refl; retry = refl })
+
 distinct-names : (resources : List Resource) (values : List Data) → AreJobs resources values
     → AllPairs (λ (one other : Job). one.name ≢ other.name) (map (job_in resources) values)
 distinct-names resources values jobs = λ i j d less below.
@@ -112,13 +118,14 @@ plan-valid root none found =
     let jobs = jobs-valid resources (get_member (codes "job") root) arriving.0 in
     let one = required_number-valid (codes "version") 1 1 (get_member (codes "version") root) version.1 in
     let values = items_in (get_member (codes "job") root) in record {
-      version = omega arith;
+      version = (one.0, omega (arith, one.1));
       turns = required_number-valid (codes "turns") 1 40000 (get_member (codes "turns") root) turns.1;
       few_resources = found.few;
       resources = found.valid;
       order = found.order;
       few_jobs = rw length-map jobs.few;
       jobs = all-jobs resources values jobs;
+      patient = λ first. all-patient resources values;
       parties = few-parties resources (plan_in root).jobs arriving.1;
       names = distinct-names resources values jobs;
     }

@@ -1,5 +1,5 @@
 -- Which plan a document without a fault is.
-use Rattle.std.specs.Prelude.{ℕ, ◌+◌, ◌-◌, ◌*◌, ℤ, pos, negsuc, Bool, ◌&&◌, not, ◌==◌, nat_le, nat_eq, if◌then◌else◌, List, [], ◌∷◌, map, Option, Some, unwrap_or, option_map, option_and_then, Result, Ok, Err, codes, fold, find, count_by}
+use Rattle.std.specs.Prelude.{ℕ, ◌+◌, ◌-◌, ◌*◌, ℤ, pos, negsuc, Bool, ◌&&◌, not, ◌==◌, nat_le, nat_eq, if◌then◌else◌, List, [], ◌∷◌, map, Option, Some, None, unwrap_or, option_map, option_and_then, Result, Ok, Err, codes, fold, find, count_by}
 use Rattle.std.specs.List.{list_all, starts_with, flat_map, filter_map, position_from, before_first, after_first}
 use Rattle.std.specs.Option.{option_map_or}
 use Rattle.std.specs.Result.{result_ok}
@@ -116,6 +116,8 @@ job_in resources job = record {
   name = job_name job;
   steps = steps_in resources (items_in (get (codes "steps") job));
   deadline = option_map (λ deadline. number_in (Some deadline)) (get (codes "deadline") job);
+  within = None;
+  retry = 0;
 }
 
 abbrev pub plan_in : Members → Plan

@@ -12,7 +12,7 @@ use Rattle.cqs_turns_report.specs.Lines.{ends_text, total_text}
 use Rattle.cqs_turns_report.specs.Report.{report_after, summary_after}
 use Rattle.cqs_core.specs.Parts.{IsPrefix}
 use Rattle.cqs_turns_report.specs.Running.{IsOpening, AreOpening, machine_of}
-use Rattle.cqs_turns_report.specs.Turns.{Machine, opening_machine}
+use Rattle.cqs_turns_report.specs.Turns.{Machine, fresh, opening_machine}
 
 -- the resources before `at` have their lines, after the text at the start
 pub record EndingOn (resources : List Resource) (at : ℕ) (f : PlainFloor) (start now : List ℕ) : Type 0 where
@@ -55,13 +55,27 @@ prefix-turns plan m text below =
     let lines : List ℕ = ends_text plan.resources 0 m.scene.floor in
     prefix-ends plan m text (below.0 ++ lines, ap (λ t. t ++ lines) below.1 ∙ append_assoc text below.0 lines)
 
+-- and fresh
+pub opening-patience : (states : List JobState) (n : ℕ) → length states ≡ n → AreOpening states
+    → map (λ s. s.patience) states ≡ replicate n fresh
+opening-patience [] zero same opening = refl
+opening-patience [] (suc n) same opening = absurd (omega arith)
+opening-patience (state ∷ states) zero same opening = absurd (omega arith)
+opening-patience (state ∷ states) (suc n) same opening =
+    let first : state.patience ≡ fresh = (opening.at 0 state refl).patience in
+    let rest : map (λ s. s.patience) states ≡ replicate n fresh
+    = opening-patience states n (omega arith) (record { at = λ k s got. opening.at (suc k) s got }) in
+    rw (first, rest) refl
+
 -- the machine at the start of a run
 pub opens : (plan : Plan) (f : PlainFloor) (text : List ℕ) (states : List JobState) → f ≡ opening_floor plan → text ≡ []
     → length states ≡ length plan.jobs → AreOpening states → machine_of f text states ≡ opening_machine plan
 opens plan f text states floor empty jobs opening =
     let progress : map (λ s. s.progress) states ≡ replicate (length plan.jobs) (Stepping 0)
     = opening-progress states (length plan.jobs) jobs opening in
-    rw (floor, empty, progress) refl
+    let patience : map (λ s. s.patience) states ≡ replicate (length plan.jobs) fresh
+    = opening-patience states (length plan.jobs) jobs opening in
+    rw (floor, empty, progress, patience) refl
 
 -- the report tells what happened in the turns, and then the summary
 pub report_is : (plan : Plan) (m : Machine) → report_after plan m ≡ m.scene.text ++ summary_after plan m

@@ -18,7 +18,13 @@ plan_of turns jobs = record {
 }
 
 abbrev job : List ℕ → List Step → Option ℕ → Job
-job name steps deadline = record { name = name; steps = steps; deadline = deadline }
+job name steps deadline =
+    record { name = name; steps = steps; deadline = deadline; within = None; retry = 0 }
+
+-- one that doesn't wait longer than so many turns, and tries again so often
+abbrev trying : List ℕ → List Step → ℕ → ℕ → Job
+trying name steps within retry =
+    record { name = name; steps = steps; deadline = None; within = Some within; retry = retry }
 
 -- takes, works and gives
 abbrev worker : List ℕ → ℕ → Job
@@ -194,3 +200,69 @@ latch_in_order : report_of one_latch
     ++ codes "total done 2 gaveup 1 late 1 unfinished 0\n"
 unfolding digits
 latch_in_order = refl
+
+-- a waiter tries once more, and then gives up
+abbrev retried_once : Plan
+retried_once = record {
+  version = 2;
+  turns = 10;
+  resources = record { name = codes "db"; kind = Semaphore 1 } ∷ [];
+  jobs = worker (codes "a") 5 ∷ trying (codes "b") (Take 0 ∷ []) 2 1 ∷ job (codes "c") (Take 0 ∷ []) None ∷ [];
+}
+
+one_retry_then_it_gives_up : report_of retried_once
+    ≡ codes "0 a takes db\n0 b waits db 0\n0 c waits db 1\n2 b retries db 0\n2 b waits db 2\n4 b gaveup db 2\n"
+    ++ codes "5 a gives db sent 1\n5 a done\n5 c served db 1\n5 c gives db free\n5 c done\n"
+    ++ codes "end db free 1 held 0 line 0\n"
+    ++ codes "total done 2 gaveup 1 late 0 unfinished 0\n"
+unfolding digits
+one_retry_then_it_gives_up = refl
+
+-- an arrival in the second round is made again in the same round
+abbrev arrives_again : Plan
+arrives_again = record {
+  version = 2;
+  turns = 9;
+  resources = record { name = codes "b"; kind = Rounds 2 2 } ∷ [];
+  jobs = trying (codes "x") (Arrive 0 ∷ Arrive 0 ∷ []) 2 2
+      ∷ job (codes "y") (Arrive 0 ∷ Work 5 ∷ Arrive 0 ∷ []) None
+      ∷ [];
+}
+
+a_retried_arrival_stays_in_its_round : report_of arrives_again
+    ≡ codes "0 x waits b.0 0\n0 y arrives b.0 last\n1 x served b.0 0\n1 x waits b.1 0\n3 x retries b.1 0\n"
+    ++ codes "3 x waits b.1 1\n5 x retries b.1 1\n5 x waits b.1 2\n5 y arrives b.1 last\n5 y done\n"
+    ++ codes "6 x served b.1 2\n6 x done\n"
+    ++ codes "end b rounds 2\n"
+    ++ codes "total done 2 gaveup 0 late 0 unfinished 0\n"
+unfolding digits
+a_retried_arrival_stays_in_its_round = refl
+
+-- no retry at the deadline, and two that are served in their retries
+abbrev with_deadlines : Plan
+with_deadlines = record {
+  version = 2;
+  turns = 8;
+  resources = record { name = codes "p"; kind = Pool 1 } ∷ record { name = codes "go"; kind = Latch 1 } ∷ [];
+  jobs = record {
+    name = codes "l";
+    steps = Work 1 ∷ Await 1 ∷ [];
+    deadline = None;
+    within = Some 3;
+    retry = 1;
+  }
+      ∷ job (codes "a") (Take 0 ∷ Work 3 ∷ Give 0 ∷ Work 1 ∷ Down 1 ∷ []) None
+      ∷ record { name = codes "b"; steps = Take 0 ∷ []; deadline = Some 2; within = Some 1; retry = 5 }
+      ∷ trying (codes "c") (Take 0 ∷ []) 2 1
+      ∷ [];
+}
+
+deadlines_end_retries : report_of with_deadlines
+    ≡ codes "0 a takes p element 0\n0 b waits p 1\n0 c waits p 2\n1 l waits go 0\n1 b retries p 1\n1 b waits p 3\n"
+    ++ codes "2 b gaveup p 3\n2 c retries p 2\n2 c waits p 4\n3 a gives p element 0 sent 4\n"
+    ++ codes "3 c served p 4 element 0\n3 c gives p element 0 free\n3 c done\n4 l retries go 0\n4 l waits go 1\n"
+    ++ codes "4 a downs go open\n4 a done\n5 l served go 1\n5 l done\n"
+    ++ codes "end p free 1 held 0 line 0\nend go count 0 line 0\n"
+    ++ codes "total done 3 gaveup 1 late 0 unfinished 0\n"
+unfolding digits
+deadlines_end_retries = refl

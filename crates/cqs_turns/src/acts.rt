@@ -1,24 +1,24 @@
 //! What a job does in its turn.
 
-ghost use Rattle.std.specs.Prelude.{◌≡◌, ◌≤◌, ◌<◌, ◌∷◌, ◌++◌, [], None, Some, drop, take, slice_get, length, ◌==◌, false, IfSome, OnOk, OnErr, IfOk};
+ghost use Rattle.std.specs.Prelude.{◌≡◌, ◌≤◌, ◌<◌, ◌-◌, true, ◌∷◌, ◌++◌, [], None, Some, drop, take, slice_get, length, ◌==◌, false, IfSome, OnOk, OnErr, IfOk};
 ghost use Rattle.std.specs.List.{position_from};
 ghost use Rattle.cqs_core.specs.Keyed.{without};
 ghost use Rattle.cqs_plan.specs.Floor.{IsJob, IsHolding, IsHoldable};
 ghost use Rattle.cqs_plan.specs.FloorCalls.{take_answer, wait_answer, arrive_answer, leave_answer, look_answer};
 ghost use Rattle.cqs_plan.specs.Runnable.{kinds_of};
 ghost use Rattle.cqs_turns_report.specs.Machine.{rests};
-ghost use Rattle.cqs_turns_report.specs.Turns.{after_acting, on_give, on_down, after_gives, after_taking, after_waiting, after_arriving, after_step, event, left_at, after_last_step, go_on, on_leave, after_giving_up, end_of, after_looking, places_held};
-ghost use Rattle.cqs_turns_report.specs.Ready.{IsReady, HasRoom, HasRoomFor, steps_left, with_place};
-ghost use Rattle.cqs_turns_report.specs.Coming.{ComesTo, LeavesAt, LeavesFrom, Makes, text_acted, text_in};
-ghost use Rattle.cqs_turns_report.specs.declared.states.Progress.TheVariants.{Waiting};
-ghost use Rattle.cqs_turns_report.specs.Roles.{role, scene, made_of, wait_at, left_with, told_served, is_holdable_at};
+ghost use Rattle.cqs_turns_report.specs.Turns.{after_acting, after_all_gives, after_leave_at, after_look_at, after_waiting_long, may_retry, patience_after, retries, leave_told, on_give, on_down, after_gives, after_taking, after_waiting, after_arriving, after_step, event, left_at, after_last_step, go_on, end_of, after_looking, places_held};
+ghost use Rattle.cqs_turns_report.specs.Ready.{IsReady, CanRetry, CanRetryIn, HasRoom, HasRoomFor, steps_left, with_place};
+ghost use Rattle.cqs_turns_report.specs.Coming.{ComesTo, LeavesAt, Makes, text_acted, text_in};
+ghost use Rattle.cqs_turns_report.specs.declared.states.Progress.TheVariants.{Waiting, Ended};
+ghost use Rattle.cqs_turns_report.specs.Roles.{role, scene, made_of, wait_at, left_with, told_retries, told_served, is_holdable_at};
 ghost use Rattle.cqs_turns.specs.States.{IsSet};
 
 use cqs_core::Memory;
 use cqs_plan::{Floor, FloorLeave, FloorLook, FloorTake, Step};
 use cqs_turns_report::{
-    Actor, End, JobState, Progress, Report, Told, told_of_arrival, told_of_down, told_of_give,
-    told_of_leave, told_of_take, told_of_wait,
+    Actor, End, JobState, Patience, Progress, Report, Told, told_of_arrival, told_of_down,
+    told_of_give, told_of_leave, told_of_take, told_of_wait,
 };
 
 /// The job gives back the oldest that it holds of this resource.
@@ -338,37 +338,7 @@ fn hold_late(
     }
 }
 
-/// The job cancels its wait. Says how the job ends.
-fn leave<F: Floor>(
-    floor: &mut F,
-    report: &mut Report,
-    actor: &Actor<'_>,
-    held: &mut Vec<u32>,
-    at: u32,
-    round: u32,
-    number: u64,
-) -> Result<End, Memory>
-    requires held { held.old.items ≡ places_held (F.plain floor.old) actor.now.place }
-    requires kinds { (F.plain floor.old).kinds ≡ kinds_of actor.now.resources.now }
-    requires ready { IsReady (F.plain floor.old) actor.now.place
-        (Some (wait_at at round number)) [] }
-    ensures ok { OnOk result (scene (F.plain floor.new) report.new ≡
-        on_leave (role actor.now) at round number
-        (leave_answer (F.plain floor.old) actor.now.place)
-        (scene (F.plain floor.old) report.old)) }
-    ensures end { IfOk result (λ end. end
-        ≡ end_of (leave_answer (F.plain floor.old) actor.now.place)) }
-    ensures held { OnOk result (held.new.items ≡ places_held (F.plain floor.new) actor.now.place) }
-    ensures ready { OnOk result (IsReady (F.plain floor.new) actor.now.place None []) }
-    ensures err { OnErr result (report.new ≡ report.old) }
-{
-    let answer = floor.leave(actor.place);
-    let end = hold_late(held, actor, at, answer)?;
-    actor.tell(report, told_of_leave(at, round, number, answer))?;
-    Ok(end)
-}
-
-/// The job's deadline has come: it gives its wait up, gives back all that it holds, and has ended.
+/// The job gave its wait up, and was answered so: it gives back all that it holds, and has ended.
 fn give_up<F: Floor>(
     floor: &mut F,
     report: &mut Report,
@@ -377,21 +347,108 @@ fn give_up<F: Floor>(
     at: u32,
     round: u32,
     number: u64,
+    answer: FloorLeave,
 ) -> Result<Progress, Memory>
-    requires held { held.old.items ≡ places_held (F.plain floor.old) actor.now.place }
-    requires kinds { (F.plain floor.old).kinds ≡ kinds_of actor.now.resources.now }
-    requires ready { IsReady (F.plain floor.old) actor.now.place
-        (Some (wait_at at round number)) [] }
+    requires held { places_held (F.plain floor.old) actor.now.place
+        ≡ left_with actor.now.resources.now held.old.items at answer }
+    requires ready { IsReady (F.plain floor.old) actor.now.place None [] }
     ensures comes { LeavesAt result
-        (after_giving_up (role actor.now) at round number
-        (leave_answer (F.plain floor.old) actor.now.place)
-        (scene (F.plain floor.old) report.old))
+        (left_at (after_all_gives (role actor.now)
+        (event (role actor.now) (scene (F.plain floor.old) report.old) (F.plain floor.old)
+        (leave_told at round number answer))) (Ended (end_of answer)))
         (scene (F.plain floor.new) report.new) }
     ensures held { OnOk result (held.new.items ≡ places_held (F.plain floor.new) actor.now.place) }
 {
-    let end = leave(floor, report, actor, held, at, round, number)?;
+    let end = hold_late(held, actor, at, answer)?;
+    actor.tell(report, told_of_leave(at, round, number, answer))?;
     give_all(floor, report, actor, held)?;
     Ok(Progress::Ended(end))
+}
+
+/// The wait of the job is gone, and it makes the step again at which it waited.
+fn retry<F: Floor>(
+    floor: &mut F,
+    report: &mut Report,
+    actor: &Actor<'_>,
+    held: &mut Vec<u32>,
+    next: u32,
+    at: u32,
+    round: u32,
+    number: u64,
+) -> Result<Progress, Memory>
+    requires some { 0 < next }
+    requires held { held.old.items ≡ places_held (F.plain floor.old) actor.now.place }
+    requires ready { IsReady (F.plain floor.old) actor.now.place None
+        (drop (next - 1) actor.now.job.now.steps) }
+    requires room { HasRoom (F.plain floor.old) actor.now.place
+        (take (next - 1) actor.now.job.now.steps) (drop (next - 1) actor.now.job.now.steps) }
+    requires few_steps { length actor.now.job.now.steps ≤ 64 }
+    requires turn { actor.now.turn ≤ 40000 }
+    ensures comes { LeavesAt result
+        (go_on (role actor.now) (next - 1)
+        (event (role actor.now) (scene (F.plain floor.old) report.old) (F.plain floor.old)
+        (told_retries at round number)))
+        (scene (F.plain floor.new) report.new) }
+    ensures held { OnOk result (held.new.items ≡ places_held (F.plain floor.new) actor.now.place) }
+{
+    actor.tell(report, Told::Retries { at, round, number })?;
+    make_steps(floor, report, actor, held, next - 1)
+}
+
+/// Whether the job, which is over time, makes the step again, by the answer to the leave of its
+/// wait.
+fn retries(actor: &Actor<'_>, patience: Patience, answer: FloorLeave) -> bool
+    ensures { result ≡ retries (role actor.now) patience answer }
+{
+    match answer {
+        FloorLeave::Gone => actor.may_retry(patience),
+        FloorLeave::Late(_) => false,
+    }
+}
+
+/// The job is over time: it gives its wait up, and then makes the step again, or has ended.
+fn wait_too_long<F: Floor>(
+    floor: &mut F,
+    report: &mut Report,
+    actor: &Actor<'_>,
+    state: &mut JobState,
+    next: u32,
+    at: u32,
+    round: u32,
+    number: u64,
+) -> Result<(), Memory>
+    requires held { state.old.held.items ≡ places_held (F.plain floor.old) actor.now.place }
+    requires kinds { (F.plain floor.old).kinds ≡ kinds_of actor.now.resources.now }
+    requires ready { IsReady (F.plain floor.old) actor.now.place
+        (Some (wait_at at round number)) (drop next actor.now.job.now.steps) }
+    requires again { may_retry (role actor.now) state.old.patience ≡ true
+        → CanRetry (F.plain floor.old) actor.now.place actor.now.job.now.steps next }
+    requires few_steps { length actor.now.job.now.steps ≤ 64 }
+    requires few_retries { actor.now.job.now.retry ≤ 64 }
+    requires turn { actor.now.turn ≤ 40000 }
+    ensures comes { ComesTo text_acted result
+        (after_waiting_long (role actor.now) state.old.patience next at round number
+        (leave_answer (F.plain floor.old) actor.now.place)
+        (scene (F.plain floor.old) report.old))
+        (left_at (scene (F.plain floor.new) report.new) state.new.progress) }
+    ensures patience { OnOk result (state.new.patience
+        ≡ after_leave_at (role actor.now) state.old.patience
+        (leave_answer (F.plain floor.old) actor.now.place)) }
+    ensures held { OnOk result (state.new.held.items
+        ≡ places_held (F.plain floor.new) actor.now.place) }
+{
+    let answer = floor.leave(actor.place);
+    let held = &mut state.held;
+    if retries(actor, state.patience, answer) {
+        state.progress = retry(floor, report, actor, held, next, at, round, number)?;
+        state.patience = Patience {
+            since: actor.turn,
+            used: state.patience.used + 1,
+        };
+    } else {
+        state.progress = give_up(floor, report, actor, held, at, round, number, answer)?;
+    }
+    Ok(())
 }
 
 /// The job was served: it holds what came as its newest, and goes on.
@@ -433,18 +490,19 @@ fn be_served<F: Floor>(
     make_steps(floor, report, actor, held, next)
 }
 
-/// The job looks at its wait. Its progress comes where the wait is over; else it is as it was.
+/// The job looks at its wait, and goes on where it was served.
 fn look<F: Floor>(
     floor: &mut F,
     report: &mut Report,
     actor: &Actor<'_>,
-    held: &mut Vec<u32>,
+    state: &mut JobState,
     next: u32,
     at: u32,
     round: u32,
     number: u64,
-) -> Result<Option<Progress>, Memory>
-    requires held { held.old.items ≡ places_held (F.plain floor.old) actor.now.place }
+) -> Result<(), Memory>
+    requires waits { state.old.progress ≡ Waiting next at round number }
+    requires held { state.old.held.items ≡ places_held (F.plain floor.old) actor.now.place }
     requires kinds { (F.plain floor.old).kinds ≡ kinds_of actor.now.resources.now }
     requires ready { IsReady (F.plain floor.old) actor.now.place
         (Some (wait_at at round number))
@@ -453,18 +511,27 @@ fn look<F: Floor>(
         (take next actor.now.job.now.steps) (drop next actor.now.job.now.steps) }
     requires few_steps { length actor.now.job.now.steps ≤ 64 }
     requires turn { actor.now.turn ≤ 40000 }
-    ensures comes { LeavesFrom (Waiting next at round number) result
+    ensures comes { ComesTo text_acted result
         (after_looking (role actor.now) next at round number
         (look_answer (F.plain floor.old) actor.now.place)
         (scene (F.plain floor.old) report.old))
-        (scene (F.plain floor.new) report.new) }
-    ensures held { OnOk result (held.new.items ≡ places_held (F.plain floor.new) actor.now.place) }
+        (left_at (scene (F.plain floor.new) report.new) state.new.progress) }
+    ensures patience { OnOk result (state.new.patience
+        ≡ after_look_at (role actor.now) state.old.patience
+        (look_answer (F.plain floor.old) actor.now.place)) }
+    ensures held { OnOk result (state.new.held.items
+        ≡ places_held (F.plain floor.new) actor.now.place) }
 {
+    // Nothing is written while a wait goes on: in most turns most jobs wait.
     match floor.look(actor.place) {
-        FloorLook::Pending => Ok(None),
+        FloorLook::Pending => Ok(()),
         FloorLook::Granted(element) => {
-            let progress = be_served(floor, report, actor, held, next, at, round, number, element)?;
-            Ok(Some(progress))
+            let held = &mut state.held;
+            state.progress = be_served(
+                floor, report, actor, held, next, at, round, number, element,
+            )?;
+            state.patience.since = actor.turn;
+            Ok(())
         }
     }
 }
@@ -480,11 +547,18 @@ pub fn act<F: Floor>(
     requires ready { IsSet (F.plain floor.old) (role actor.now) state.old }
     requires room { HasRoomFor (F.plain floor.old) actor.now.place actor.now.job.now.steps
         state.old.progress }
+    requires again { CanRetryIn (F.plain floor.old) (role actor.now) state.old.patience
+        state.old.progress }
     requires few_steps { length actor.now.job.now.steps ≤ 64 }
+    requires few_retries { actor.now.job.now.retry ≤ 64 }
     requires turn { actor.now.turn ≤ 40000 }
     ensures comes { ComesTo text_acted result
-        (after_acting (role actor.now) state.old.progress (scene (F.plain floor.old) report.old))
+        (after_acting (role actor.now) state.old.patience state.old.progress
+        (scene (F.plain floor.old) report.old))
         (left_at (scene (F.plain floor.new) report.new) state.new.progress) }
+    ensures patience { OnOk result (state.new.patience
+        ≡ patience_after (role actor.now) state.old.patience state.old.progress
+        (scene (F.plain floor.old) report.old)) }
     ensures held { OnOk result (state.new.held.items
         ≡ places_held (F.plain floor.new) actor.now.place) }
 {
@@ -492,36 +566,22 @@ pub fn act<F: Floor>(
         Progress::Ended(_) => unreachable!(),
         Progress::Stepping(next) | Progress::Working { next, .. } => {
             state.progress = make_steps(floor, report, actor, &mut state.held, next)?;
-        }
-        Progress::Waiting {
-            next: _,
-            at,
-            round,
-            number,
-        } if actor.is_due() => {
-            state.progress = give_up(floor, report, actor, &mut state.held, at, round, number)?;
+            state.patience.since = actor.turn;
+            Ok(())
         }
         Progress::Waiting {
             next,
             at,
             round,
             number,
-        } => {
-            // Nothing is written while a wait goes on: in most turns most jobs wait.
-            let moved = look(
-                floor,
-                report,
-                actor,
-                &mut state.held,
-                next,
-                at,
-                round,
-                number,
-            )?;
-            if let Some(progress) = moved {
-                state.progress = progress;
-            }
+        } if actor.is_over_time(state.patience) => {
+            wait_too_long(floor, report, actor, state, next, at, round, number)
         }
+        Progress::Waiting {
+            next,
+            at,
+            round,
+            number,
+        } => look(floor, report, actor, state, next, at, round, number),
     }
-    Ok(())
 }

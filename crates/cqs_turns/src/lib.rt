@@ -9,5 +9,5 @@ mod acts;
 mod runs;
 mod turns;
 
-pub use cqs_turns_report::{Actor, End, JobState, Progress, Report};
+pub use cqs_turns_report::{Actor, End, JobState, Patience, Progress, Report};
 pub use runs::{run_plan, summarize_plan};

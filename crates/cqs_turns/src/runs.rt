@@ -13,7 +13,7 @@ ghost use Rattle.cqs_turns_report.specs.Turns.{machine_after, opening_machine};
 use crate::turns::one_turn;
 use cqs_core::Memory;
 use cqs_plan::{Floor, Job, Plan, Step};
-use cqs_turns_report::{JobState, Progress, Report};
+use cqs_turns_report::{JobState, Patience, Progress, Report};
 use std::alloc::Global;
 
 /// A job that hasn't begun, with memory for all that it takes.
@@ -28,6 +28,7 @@ fn opening_state(alloc: Global, job: &Job) -> Result<JobState, Memory>
         .count();
     Ok(JobState {
         progress: Progress::Stepping(0),
+        patience: Patience { since: 0, used: 0 },
         held: Vec::with_capacity(alloc, takes)?,
     })
 }

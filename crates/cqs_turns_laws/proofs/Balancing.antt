@@ -126,7 +126,7 @@ module _ (resources : List Resource) (f : PlainFloor) (funded : AreFunded resour
   over-left job round number has =
       let Goes : Option JobWait → Type 0 = λ o. AreFunded resources (with_left f job o) in
       subst Goes (sym has.waits)
-      (over-funded resources f funded at round (leaves number) there unheld f.room f.rounds job has.job.waits)
+      (over-funded resources f funded at round (leaves number) there unheld f.room _ job has.job.waits)
 
   leaves-over : (job round number : ℕ) (answer : FloorLeave) → HasWait f job at round number
       → AreFunded resources (after_leave f job answer)
@@ -307,6 +307,15 @@ sound-kept plan = record {
         (wait-there plan r actor s sound.lines sound.tells at round number has)
         has
         sound.even;
+  };
+  retries = λ r at round number s actor has gone sound. record {
+    lines = _;
+    tells = (told-by-events plan).retries r at round number s sound.lines actor has gone sound.tells;
+    funded = subst (λ answer. AreFunded plan.resources (after_leave s.floor r.place answer)) gone
+        (leaves-funded plan r actor s sound at round number has);
+    even = subst (λ answer. AreEven (after_leave s.floor r.place answer)) gone
+        (leaves-so-even s.floor r.place at round number
+        (wait-there plan r actor s sound.lines sound.tells at round number has) has sound.even);
   };
   downs = λ r at s actor kind sound. record {
     lines = _;

@@ -1,5 +1,5 @@
 -- A job that ends gives back all that it holds, and nobody else's turn gives it anything.
-use Rattle.std.proofs.Common.{◌≡◌, ◌≢◌, ℕ, ◌+◌, List, [], ◌∷◌, Bool, true, false, nat_lt, Option, Some, None, drop, refl, ap}
+use Rattle.std.proofs.Common.{◌≡◌, ◌≢◌, ℕ, ◌+◌, ◌-◌, List, [], ◌∷◌, Bool, true, false, nat_lt, Option, Some, None, drop, refl, ap}
 use Rattle.std.specs.Bool.{if◌then◌else◌}
 use Rattle.cqs_plan.specs.declared.plans.step.Step.{Step}
 use Rattle.cqs_plan.specs.declared.plans.step.Step.TheVariants.{Take, Give, Down, Await, Arrive, Work}
@@ -12,13 +12,15 @@ use Rattle.cqs_plan.specs.FloorCalls.{take_answer, give_answer, wait_answer, arr
 use Rattle.cqs_plan.specs.Floor.{round_of}
 use Rattle.cqs_turns_report.specs.declared.lines.Told.TheVariants as told
 use Rattle.cqs_turns_report.specs.declared.states.End.{End}
+use Rattle.cqs_turns_report.specs.declared.states.Patience.{Patience}
 use Rattle.cqs_turns_report.specs.declared.states.Progress.{Progress}
 use Rattle.cqs_turns_report.specs.declared.states.Progress.TheVariants.{Stepping, Working, Waiting, Ended}
-use Rattle.cqs_turns_report.specs.Ready.{IsReady, wait_in, steps_left}
+use Rattle.cqs_turns_report.specs.Ready.{IsReady, CanRetry, CanRetryIn, wait_in, steps_left}
 use Rattle.cqs_turns_report.specs.Roles.{wait_at}
-use Rattle.cqs_turns_report.specs.Turns.{Role, Scene, Made, Acted, event, on_give, after_gives, after_step, after_coming, on_take, on_wait, on_arrive, stop_or, after_steps, after_last_step, on_leave, after_giving_up, after_looking, after_acting, is_due, places_held, left_at, go_on}
+use Rattle.cqs_turns_report.specs.Turns.{Role, Scene, Made, Acted, event, on_give, after_gives, after_step, after_coming, on_take, on_wait, on_arrive, stop_or, after_steps, after_last_step, on_leave, on_retry, after_giving_up, after_looking, after_retrying, after_waiting_long, after_acting, is_over_time, may_retry, retries, places_held, left_at, go_on}
 use Rattle.cqs_turns_report.proofs.Readied.{first-given, first-ready, leave-ready, after_looking-ready}
 use Rattle.cqs_turns_report.proofs.Stepping.{after_step-ready}
+use Rattle.cqs_turns_laws.proofs.OwnTurn.{retries-may}
 
 -- where the job has ended, it holds nothing
 abbrev pub IsEmptied : Role → Acted → Type 0
@@ -88,16 +90,31 @@ after_looking-empties r next at round number (Granted element) s ready e ended =
     (event r s (after_look s.floor r.place (Granted element)) (told.Served at round number element))
     (after_looking-ready s.floor r.place (wait_at at round number) element (drop next r.job.steps) ready) e ended
 
-pub after_acting-empties : (r : Role) (p : Progress) (s : Scene)
-    → IsReady s.floor r.place (wait_in p) (steps_left r.job.steps p)
-    → IsEmptied r (left_at s p) → IsEmptied r (after_acting r p s)
-after_acting-empties r (Stepping next) s ready before = after_steps-empties r (drop next r.job.steps) next s ready
-after_acting-empties r (Working next until) s ready before =
+after_waiting_long-empties : (r : Role) (x : Patience) (next at round number : ℕ) (answer : FloorLeave) (s : Scene)
+    → IsReady s.floor r.place (Some (wait_at at round number)) (drop next r.job.steps)
+    → (may_retry r x ≡ true → CanRetry s.floor r.place r.job.steps next)
+    → IsEmptied r (after_waiting_long r x next at round number answer s)
+after_waiting_long-empties r x next at round number answer s ready again = by (retries r x answer) refl
+  where
+    by : (b : Bool) → retries r x answer ≡ b
+        → IsEmptied r (if b then after_retrying r next at round number s
+        else after_giving_up r at round number answer s)
+    by true is =
+        after_steps-empties r (drop (next - 1) r.job.steps) (next - 1) (on_retry r at round number s)
+        (again (retries-may r x answer is)).ready
+    by false is = after_giving_up-empties r at round number answer s (drop next r.job.steps) ready
+
+pub after_acting-empties : (r : Role) (x : Patience) (p : Progress) (s : Scene)
+    → IsReady s.floor r.place (wait_in p) (steps_left r.job.steps p) → CanRetryIn s.floor r x p
+    → IsEmptied r (left_at s p) → IsEmptied r (after_acting r x p s)
+after_acting-empties r x (Stepping next) s ready again before =
+    after_steps-empties r (drop next r.job.steps) next s ready
+after_acting-empties r x (Working next until) s ready again before =
     emptied-if r (nat_lt r.turn until) (left_at s (Working next until)) (go_on r next s) before
     (after_steps-empties r (drop next r.job.steps) next s ready)
-after_acting-empties r (Waiting next at round number) s ready before =
-    emptied-if r (is_due r.job.deadline r.turn) (after_giving_up r at round number (leave_answer s.floor r.place) s)
+after_acting-empties r x (Waiting next at round number) s ready again before =
+    emptied-if r (is_over_time r x) (after_waiting_long r x next at round number (leave_answer s.floor r.place) s)
     (after_looking r next at round number (look_answer s.floor r.place) s)
-    (after_giving_up-empties r at round number (leave_answer s.floor r.place) s (drop next r.job.steps) ready)
+    (after_waiting_long-empties r x next at round number (leave_answer s.floor r.place) s ready again)
     (after_looking-empties r next at round number (look_answer s.floor r.place) s ready)
-after_acting-empties r (Ended end) s ready before = before
+after_acting-empties r x (Ended end) s ready again before = before

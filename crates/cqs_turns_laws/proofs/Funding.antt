@@ -10,7 +10,7 @@ use Rattle.cqs_plan.specs.declared.plans.resource.Resource.{Resource}
 use Rattle.cqs_plan.specs.declared.floors.answers.FloorTake.TheVariants.{Now, Waits}
 use Rattle.cqs_plan.specs.declared.floors.answers.FloorGive.TheVariants.{Free, Sent}
 use Rattle.cqs_plan.specs.FloorHistory.{History, of_permits, of_elements, of_latch, of_rounds, Deed, takes, joins, frees, sends, gets, leaves, is_late, came_for, first_free, standing, with_deed, with_deed_in}
-use Rattle.cqs_plan.specs.Floor.{PlainFloor, JobWait, Holding, history_at, holds_of, oldest, size_at, standing_at, wait_of, with_done, with_newest, with_wait}
+use Rattle.cqs_plan.specs.Floor.{PlainFloor, JobWait, Holding, history_at, holds_of, oldest, size_at, standing_at, wait_of, with_back, with_done, with_newest, with_wait}
 use Rattle.cqs_plan.specs.FloorCalls.{after_take, after_give}
 use Rattle.cqs_turns_report.specs.Lines.{is_pool_at}
 use Rattle.cqs_turns_report.specs.Roles.{wait_at}
@@ -404,9 +404,10 @@ module _ (resources : List Resource) (f : PlainFloor) (lines : List Line) (lined
         (λ holds' claims' more. late-funds size (holds_in pool at f.holds) (claims_on pool at size h f.waits) holds'
         claims' more h number e (funded.at at))
 
-    pub gone-funded : AreFunded resources (with_wait (with_done f at (leaves number)) job None)
+    pub gone-funded : AreFunded resources
+        (with_back (with_wait (with_done f at (leaves number)) job None) job (wait_at at 0 number))
     gone-funded =
-        funded-on (leaves number) f.room _ f.holds f.rounds
+        funded-on (leaves number) f.room _ f.holds _
         (leaves-funds size (holds_in pool at f.holds) (claims_on pool at size h f.waits) _ _
         (λ x. omega (
           arith,

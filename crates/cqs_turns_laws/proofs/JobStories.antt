@@ -1,31 +1,32 @@
 -- Each event of a job adds a line to its story, and none to another's.
-use Rattle.std.proofs.Common.{◌≡◌, ◌≢◌, ◌⊎◌, inl, inr, ℕ, zero, suc, ◌+◌, ◌<◌, ◌≤◌, List, [], nat_lt, Some, length, map, set, replicate, slice_get, refl, sym, ap, subst, ◌∙◌, lt-ltb, le-ltb, arith}
+use Rattle.std.proofs.Common.{◌≡◌, ◌≢◌, ◌⊎◌, inl, inr, ℕ, zero, suc, ◌+◌, ◌<◌, ◌≤◌, List, [], nat_lt, Some, length, map, set, get_or, replicate, slice_get, refl, sym, ap, subst, ◌∙◌, lt-ltb, le-ltb, arith}
 use Rattle.std.specs.Bool.{if◌then◌else◌}
 use Rattle.std.proofs.lemmas.Bool.{cases_eq, cases_lt}
-use Rattle.std.proofs.lemmas.List.{get_or-replicate}
+use Rattle.std.proofs.lemmas.List.{get_or-replicate, get_or-set_other}
+use Rattle.std.proofs.lemmas.Option.{get_or_from_slice_get}
 use Rattle.cqs_core.proofs.Places.{get-below, get-set_here, get-set_else, get-there}
 use Rattle.cqs_plan.specs.declared.plans.job.Job.{Job}
 use Rattle.cqs_plan.specs.declared.plans.plan.Plan.{Plan}
 use Rattle.cqs_plan.specs.Runnable.{IsRunnable, AreMakeable, kinds_of}
+use Rattle.cqs_turns_report.specs.declared.states.Patience.{Patience}
 use Rattle.cqs_turns_report.specs.declared.states.Progress.{Progress}
 use Rattle.cqs_turns_report.specs.declared.states.Progress.TheVariants.{Stepping}
 use Rattle.cqs_turns_report.specs.Ready.{IsReady, wait_in, steps_left}
 use Rattle.cqs_turns_report.specs.Running.{IsRunning}
-use Rattle.cqs_turns_report.specs.Turns.{Role, Scene, Acted, Machine, after_acting, one_job, opening_machine, machine_after, places_held}
+use Rattle.cqs_turns_report.specs.Turns.{Role, Scene, Acted, Machine, after_acting, fresh, one_job, opening_machine, machine_after, patience_after, places_held}
 use Rattle.cqs_turns_report.proofs.Opened.{opening-running}
-use Rattle.cqs_turns_report.proofs.RunningLemmas.{room-of, running-on}
-use Rattle.cqs_turns_report.proofs.Turned.{Turned, after_acting-turned}
+use Rattle.cqs_turns_report.proofs.TurnKept.{Acts, acts, acts-again}
 use Rattle.cqs_turns_laws.specs.Events.{Line, EveryReportHasItsLines}
-use Rattle.cqs_turns_laws.specs.Stories.{Stage, AtStep, Story, AreInOrder, own_lines, EveryJobHasItsStory}
+use Rattle.cqs_turns_laws.specs.Stories.{Stage, AtStep, Story, AreInOrder, own_lines, retries_in, EveryJobHasItsStory}
 use Rattle.cqs_turns_laws.specs.Stories as story
 use Rattle.cqs_turns_laws.proofs.Everywhere.{always-in}
-use Rattle.cqs_turns_laws.proofs.OwnTurn.{role_of}
-use Rattle.cqs_turns_laws.proofs.Kept.{one-job-is, with_acted}
+use Rattle.cqs_turns_laws.proofs.OwnTurn.{patience_at, role_of}
+use Rattle.cqs_turns_laws.proofs.Kept.{has-patience, one-job-is, with_acted}
 use Rattle.cqs_turns_laws.proofs.Lifting.{IsActor, IsToldByEvents}
 use Rattle.cqs_turns_laws.proofs.Telling.{IsTelling, told-by-events, opening-tells}
 use Rattle.cqs_turns_laws.proofs.StoryLines.{IsPast, past-in, past-out, past-over}
-use Rattle.cqs_turns_laws.proofs.StoryStages.{held_at, IsAt, counts-as}
-use Rattle.cqs_turns_laws.proofs.StorySteps.{Acts, after_acting-walks}
+use Rattle.cqs_turns_laws.proofs.StoryStages.{held_at, IsAt, counts-as, retries-few}
+use Rattle.cqs_turns_laws.proofs.StorySteps.{Turns, after_acting-walks}
 
 -- in which turn a job has its next turn, where the job at this place is the next that acts
 abbrev next_turn : ℕ → ℕ → ℕ → ℕ
@@ -54,10 +55,12 @@ turn-over turn all place below = rw (lt-ltb place all below) (sym (turn-first (s
 
 module _ (plan : Plan) (P : Scene → List Line → Type 0) (told_so : IsToldByEvents plan P) where
   -- the job has its story, and is as far as that says
-  pub record IsTold (turn : ℕ) (job : Job) (p : Progress) (places : List ℕ) (own : List Line) : Type 0 where
+  pub record IsTold (turn : ℕ) (job : Job) (x : Patience) (p : Progress) (places : List ℕ) (own : List Line)
+      : Type 0 where
     pub stage : Stage
     pub story : Story job own stage
-    pub is : IsAt job turn p stage
+    pub count : retries_in own ≡ x.used
+    pub is : IsAt job turn x.since p stage
     pub held : places ≡ held_at stage
 
   -- the machine runs, and its lines are the stories of its jobs
@@ -67,7 +70,8 @@ module _ (plan : Plan) (P : Scene → List Line → Type 0) (told_so : IsToldByE
     pub holds : P m.scene lines
     pub jobs : (place : ℕ) (job : Job) (p : Progress) → slice_get plan.jobs place ≡ Some job
         → slice_get m.progress place ≡ Some p
-        → IsTold (next_turn turn next place) job p (places_held m.scene.floor place) (own_lines place lines)
+        → IsTold (next_turn turn next place) job (patience_at m place) p (places_held m.scene.floor place)
+        (own_lines place lines)
     pub nobody : (place : ℕ) → length plan.jobs ≤ place → own_lines place lines ≡ []
     pub past : (n : ℕ) (x : Line) → slice_get lines n ≡ Some x → IsPast turn next x
     pub order : AreInOrder lines
@@ -78,8 +82,17 @@ module _ (plan : Plan) (P : Scene → List Line → Type 0) (told_so : IsToldByE
     abbrev role : Role
     role = role_of plan.resources turn place job
 
+    abbrev x : Patience
+    x = patience_at m place
+
     abbrev a : Acted
-    a = after_acting role p m.scene
+    a = after_acting role x p m.scene
+
+    abbrev y : Patience
+    y = patience_after role x p m.scene
+
+    own-patience : slice_get m.patience place ≡ Some x
+    own-patience = has-patience plan m place job storied.running there
 
     ready : IsReady m.scene.floor place (wait_in p) (steps_left job.steps p)
     ready = storied.running.ready place job p there got
@@ -90,21 +103,20 @@ module _ (plan : Plan) (P : Scene → List Line → Type 0) (told_so : IsToldByE
     abbrev actor : IsActor plan role
     actor = record { resources = refl; job = there }
 
-    turned : Turned role m.scene.floor (steps_left job.steps p) a
-    turned =
-        after_acting-turned role p m.scene ready (room-of plan m place job storied.running runnable there p got)
-        (storied.running.rounds place job p there got)
+    turned : Acts plan m role a y
+    turned = acts plan m role x storied.running runnable there own-patience p got
 
-    acts : Acts plan P told_so role actor able storied.lines a
-    acts =
+    walks : Turns plan P told_so role actor able storied.lines a y
+    walks =
         let own = storied.jobs place job p there got in
-        let is : IsAt job turn p own.stage
-        = subst (λ n. IsAt job n p own.stage) (turn-here turn place) own.is in
-        after_acting-walks plan P told_so role actor able storied.lines p own.stage m.scene storied.running.kinds is
-        ready (record {
+        let is : IsAt job turn x.since p own.stage
+        = subst (λ n. IsAt job n x.since p own.stage) (turn-here turn place) own.is in
+        after_acting-walks plan P told_so role actor able storied.lines x p own.stage m.scene storied.running.kinds is
+        ready (acts-again plan m role x storied.running runnable there own-patience p got) (record {
           lines = storied.lines;
           holds = storied.holds;
           story = own.story;
+          count = own.count;
           others = λ j other. refl;
           held = own.held;
           past = λ n x got. past-in turn place x (storied.past n x got);
@@ -113,38 +125,51 @@ module _ (plan : Plan) (P : Scene → List Line → Type 0) (told_so : IsToldByE
 
     told-after : (j : ℕ) (other_job : Job) (q : Progress) → slice_get plan.jobs j ≡ Some other_job
         → slice_get (set m.progress place a.progress) j ≡ Some q → (j ≡ place) ⊎ (j ≢ place)
-        → IsTold (next_turn turn (place + 1) j) other_job q (places_held a.scene.floor j)
-        (own_lines j acts.walked.lines)
+        → IsTold (next_turn turn (place + 1) j) other_job (get_or (set m.patience place y) j fresh) q
+        (places_held a.scene.floor j) (own_lines j walks.walked.lines)
     told-after j other_job q is now (inl here) =
         let own_job : job ≡ other_job = cc in
         let own : slice_get (set m.progress place a.progress) place ≡ Some a.progress
         = get-set_here m.progress place p a.progress got in
         let again : slice_get (set m.progress place a.progress) place ≡ Some q = rw here at now in
         let same : a.progress ≡ q = cc in
-        rw (here, turn-gone turn place, ← own_job, ← same)
-        (record { stage = acts.stage; story = acts.walked.story; is = acts.is; held = acts.walked.held })
+        let patience : get_or (set m.patience place y) place fresh ≡ y
+        = get_or_from_slice_get (set m.patience place y) place y fresh
+        (get-set_here m.patience place x y own-patience) in
+        rw (here, turn-gone turn place, ← own_job, ← same, patience)
+        (record {
+          stage = walks.stage;
+          story = walks.walked.story;
+          count = walks.walked.count;
+          is = walks.is;
+          held = walks.walked.held;
+        })
     told-after j other_job q is now (inr other) =
         let was : slice_get m.progress j ≡ Some q
         = sym (get-set_else m.progress place j a.progress (λ same. other (sym same))) ∙ now in
         let old = storied.jobs j other_job q is was in
-        record {
+        let patience : get_or (set m.patience place y) j fresh ≡ patience_at m j
+        = get_or-set_other m.patience place j y fresh other in
+        rw patience (record {
           stage = old.stage;
-          story = subst (λ ls. Story other_job ls old.stage) (sym (acts.walked.others j other)) old.story;
-          is = subst (λ n. IsAt other_job n q old.stage) (sym (turn-else turn place j other)) old.is;
-          held = ap (map (λ h. h.at)) (turned.moves.holds j other) ∙ old.held;
-        }
+          story = subst (λ ls. Story other_job ls old.stage) (sym (walks.walked.others j other)) old.story;
+          count = ap retries_in (walks.walked.others j other) ∙ old.count;
+          is = subst (λ n. IsAt other_job n (patience_at m j).since q old.stage) (sym (turn-else turn place j other))
+              old.is;
+          held = ap (map (λ h. h.at)) (turned.holds j other) ∙ old.held;
+        })
 
-    storied-after : IsStoried turn (place + 1) (with_acted m place a)
+    storied-after : IsStoried turn (place + 1) (with_acted m place a y)
     storied-after = record {
-      running = running-on plan m role p a storied.running there got turned;
-      lines = acts.walked.lines;
-      holds = acts.walked.holds;
+      running = turned.running;
+      lines = walks.walked.lines;
+      holds = walks.walked.holds;
       jobs = λ j other_job q is now. told-after j other_job q is now (cases_eq j place);
       nobody = λ j past.
           let below : place < length plan.jobs = get-below plan.jobs place job there in
-          acts.walked.others j (λ same. omega (arith, same, below, past)) ∙ storied.nobody j past;
-      past = acts.walked.past;
-      order = acts.walked.order;
+          walks.walked.others j (λ same. omega (arith, same, below, past)) ∙ storied.nobody j past;
+      past = walks.walked.past;
+      order = walks.walked.order;
     }
 
   one-job-storied : IsRunnable plan → (turn place : ℕ) (job : Job) (m : Machine)
@@ -182,10 +207,13 @@ module _ (plan : Plan) (P : Scene → List Line → Type 0) (told_so : IsToldByE
     lines = [];
     holds = opens;
     jobs = λ place job p there got.
-        rw (begun (length plan.jobs) place p got, turn-first 0 place)
+        let patience : get_or (replicate (length plan.jobs) fresh) place fresh ≡ fresh
+        = get_or-replicate (length plan.jobs) place fresh fresh (get-below plan.jobs place job there) in
+        rw (begun (length plan.jobs) place p got, turn-first 0 place, patience)
         (record {
           stage = AtStep 0 0 [];
           story = story.begins;
+          count = refl;
           is = ([], refl);
           held = ap (map (λ h. h.at)) (get_or-replicate (length plan.jobs) place [] []
               (get-below plan.jobs place job there));
@@ -218,9 +246,15 @@ every-job-has-its-story plan turns runnable =
       record {
         jobs = λ place job p there got.
             let own = all.jobs place job p there got in
-            let is : IsAt job turns p own.stage
-            = subst (λ n. IsAt job n p own.stage) (turn-first turns place) own.is in
-            record { stage = own.stage; story = own.story; counts = counts-as job turns p own.stage is };
+            let x : Patience = patience_at (machine_after plan turns) place in
+            let is : IsAt job turns x.since p own.stage
+            = subst (λ n. IsAt job n x.since p own.stage) (turn-first turns place) own.is in
+            record {
+              stage = own.stage;
+              story = own.story;
+              counts = counts-as job turns x.since p own.stage is;
+              few_retries = retries-few job own.story;
+            };
         nobody = all.nobody;
         early = λ n line got. past-over turns line (all.past n line got);
         order = all.order;

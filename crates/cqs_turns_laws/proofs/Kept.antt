@@ -1,7 +1,7 @@
 -- The machine of a runnable plan: it keeps running, and the jobs that have ended hold nothing.
 use Rattle.std.proofs.Common.{◌≡◌, ◌≢◌, ◌⊎◌, inl, inr, ℕ, zero, suc, ◌<◌, List, [], ◌∷◌, Some, None, length, map, set, slice_get, replicate, refl, sym, ap, subst, ◌∙◌, arith}
 use Rattle.std.proofs.lemmas.Bool.{cases_eq}
-use Rattle.std.proofs.lemmas.Option.{get_or_from_slice_get}
+use Rattle.std.proofs.lemmas.Option.{get_or_from_slice_get, slice_get-get_or}
 use Rattle.cqs_core.proofs.Places.{get-set_here, get-set_else, get-below, get-there}
 use Rattle.cqs_plan.specs.declared.plans.job.Job.{Job}
 use Rattle.cqs_plan.specs.declared.plans.plan.Plan.{Plan}
@@ -10,17 +10,18 @@ use Rattle.cqs_plan.specs.Floor.{Holding, holds_of}
 use Rattle.cqs_plan.specs.Runnable.{IsRunnable}
 use Rattle.cqs_turns_report.specs.declared.states.End.{End}
 use Rattle.cqs_turns_report.specs.declared.states.End.TheVariants as end
+use Rattle.cqs_turns_report.specs.declared.states.Patience.{Patience}
 use Rattle.cqs_turns_report.specs.declared.states.Progress.{Progress}
 use Rattle.cqs_turns_report.specs.declared.states.Progress.TheVariants.{Stepping, Ended}
 use Rattle.cqs_turns_report.specs.Ready.{IsReady, wait_in, steps_left}
 use Rattle.cqs_turns_report.specs.Running.{IsRunning}
-use Rattle.cqs_turns_report.specs.Turns.{Role, Acted, Machine, after_acting, one_job, opening_machine, machine_after, places_held}
+use Rattle.cqs_turns_report.specs.Turns.{Role, Acted, Machine, after_acting, fresh, one_job, opening_machine, machine_after, patience_after, places_held}
 use Rattle.cqs_turns_report.proofs.Opened.{opening-running}
-use Rattle.cqs_turns_report.proofs.RunningLemmas.{room-of, running-on}
-use Rattle.cqs_turns_report.proofs.Turned.{Turned, after_acting-turned}
+use Rattle.cqs_turns_report.proofs.RunningLemmas.{machine_with}
+use Rattle.cqs_turns_report.proofs.TurnKept.{Acts, acts, acts-again}
 use Rattle.cqs_turns_laws.specs.Endings.{EndedJobsHaveNothing}
 use Rattle.cqs_turns_laws.proofs.Everywhere.{always}
-use Rattle.cqs_turns_laws.proofs.OwnTurn.{role_of}
+use Rattle.cqs_turns_laws.proofs.OwnTurn.{patience_at, role_of}
 use Rattle.cqs_turns_laws.proofs.Emptied.{after_acting-empties}
 
 -- the machine runs, and the jobs that have ended hold nothing
@@ -30,32 +31,46 @@ pub record IsKept (plan : Plan) (m : Machine) : Type 0 where
       → places_held m.scene.floor place ≡ []
 
 -- the machine after the job at a place acted
-abbrev pub with_acted : Machine → ℕ → Acted → Machine
-with_acted m place a = record { scene = a.scene; progress = set m.progress place a.progress }
+abbrev pub with_acted : Machine → ℕ → Acted → Patience → Machine
+with_acted m place a y = machine_with m place a.scene a.progress y
 
 pub one-job-is : (resources : List Resource) (turn place : ℕ) (job : Job) (m : Machine) (p : Progress)
     → slice_get m.progress place ≡ Some p
     → one_job resources turn place job m
-    ≡ with_acted m place (after_acting (role_of resources turn place job) p m.scene)
+    ≡ with_acted m place (after_acting (role_of resources turn place job) (patience_at m place) p m.scene)
+    (patience_after (role_of resources turn place job) (patience_at m place) p m.scene)
 one-job-is resources turn place job m p got =
-    ap (λ q. with_acted m place (after_acting (role_of resources turn place job) q m.scene))
+    let r : Role = role_of resources turn place job in
+    let x : Patience = patience_at m place in
+    ap (λ q. with_acted m place (after_acting r x q m.scene) (patience_after r x q m.scene))
     (get_or_from_slice_get m.progress place p (Ended end.Done) got)
+
+-- each job of a running machine has its patience
+pub has-patience : (plan : Plan) (m : Machine) (place : ℕ) (job : Job) → IsRunning plan m
+    → slice_get plan.jobs place ≡ Some job → slice_get m.patience place ≡ Some (patience_at m place)
+has-patience plan m place job running there =
+    slice_get-get_or m.patience place fresh
+    (omega (arith, running.patience, get-below plan.jobs place job there))
 
 module _ (plan : Plan) (turn place : ℕ) (job : Job) (m : Machine) (there : slice_get plan.jobs place ≡ Some job)
     (runnable : IsRunnable plan) (kept : IsKept plan m) (p : Progress) (got : slice_get m.progress place ≡ Some p) where
   abbrev r : Role
   r = role_of plan.resources turn place job
 
+  abbrev x : Patience
+  x = patience_at m place
+
   abbrev a : Acted
-  a = after_acting r p m.scene
+  a = after_acting r x p m.scene
 
   ready : IsReady m.scene.floor place (wait_in p) (steps_left job.steps p)
   ready = kept.running.ready place job p there got
 
-  turned : Turned r m.scene.floor (steps_left job.steps p) a
-  turned =
-      after_acting-turned r p m.scene ready (room-of plan m place job kept.running runnable there p got)
-      (kept.running.rounds place job p there got)
+  own : slice_get m.patience place ≡ Some x
+  own = has-patience plan m place job kept.running there
+
+  acted : Acts plan m r a (patience_after r x p m.scene)
+  acted = acts plan m r x kept.running runnable there own p got
 
   emptied-after : (j : ℕ) (e : End) → slice_get (set m.progress place a.progress) j ≡ Some (Ended e)
       → (j ≡ place) ⊎ (j ≢ place) → places_held a.scene.floor j ≡ []
@@ -64,15 +79,17 @@ module _ (plan : Plan) (turn place : ℕ) (job : Job) (m : Machine) (there : sli
       = get-set_here m.progress place p a.progress got in
       let own : slice_get (set m.progress place a.progress) place ≡ Some (Ended e) = rw here at ended in
       let same : a.progress ≡ Ended e = cc in
-      rw here (after_acting-empties r p m.scene ready (λ d before. kept.emptied place d (got ∙ ap Some before)) e same)
+      rw here (after_acting-empties r x p m.scene ready
+      (acts-again plan m r x kept.running runnable there (has-patience plan m place job kept.running there) p got)
+      (λ d before. kept.emptied place d (got ∙ ap Some before)) e same)
   emptied-after j e ended (inr other) =
       let before : slice_get m.progress j ≡ Some (Ended e)
       = sym (get-set_else m.progress place j a.progress (λ same. other (sym same))) ∙ ended in
-      ap (map (λ h. h.at)) (turned.moves.holds j other) ∙ kept.emptied j e before
+      ap (map (λ h. h.at)) (acted.holds j other) ∙ kept.emptied j e before
 
-  kept-after : IsKept plan (with_acted m place a)
+  kept-after : IsKept plan (with_acted m place a (patience_after r x p m.scene))
   kept-after = record {
-    running = running-on plan m r p a kept.running there got turned;
+    running = acted.running;
     emptied = λ j e ended. emptied-after j e ended (cases_eq j place);
   }
 

@@ -1,5 +1,5 @@
 -- What every event keeps holds after every turn: the principle by which the laws of events are proved.
-use Rattle.std.proofs.Common.{◌≡◌, ℕ, ◌+◌, ◌<◌, List, [], ◌∷◌, ◌++◌, Bool, true, false, nat_lt, ◌==◌, Option, Some, None, length, drop, slice_get, refl, sym, subst, eq-eqb, arith}
+use Rattle.std.proofs.Common.{◌≡◌, ℕ, ◌+◌, ◌-◌, ◌<◌, List, [], ◌∷◌, ◌++◌, Bool, true, false, nat_lt, ◌==◌, Option, Some, None, length, drop, slice_get, refl, sym, subst, eq-eqb, arith}
 use Rattle.std.specs.Bool.{if◌then◌else◌}
 use Rattle.cqs_core.proofs.Places.{get-below, get-there}
 use Rattle.cqs_plan.specs.declared.plans.job.Job.{Job}
@@ -10,26 +10,27 @@ use Rattle.cqs_plan.specs.declared.floors.answers.FloorTake.{FloorTake}
 use Rattle.cqs_plan.specs.declared.floors.answers.FloorTake.TheVariants.{Now, Waits}
 use Rattle.cqs_plan.specs.declared.floors.answers.FloorLook.{FloorLook}
 use Rattle.cqs_plan.specs.declared.floors.answers.FloorLook.TheVariants.{Pending, Granted}
+use Rattle.cqs_plan.specs.declared.floors.answers.FloorLeave.TheVariants as leave
 use Rattle.cqs_plan.specs.Floor.{PlainFloor, IsJob, IsHoldable, IsLatch, HasRound, round_of, wait_of}
 use Rattle.cqs_plan.specs.FloorCalls.{take_answer, give_answer, wait_answer, arrive_answer, down_answer, look_answer, leave_answer, after_look}
 use Rattle.cqs_plan.specs.Runnable.{IsRunnable}
 use Rattle.cqs_turns_report.specs.declared.lines.Told.TheVariants as told
 use Rattle.cqs_turns_report.specs.declared.lines.Told.{Told}
+use Rattle.cqs_turns_report.specs.declared.states.Patience.{Patience}
 use Rattle.cqs_turns_report.specs.declared.states.Progress.{Progress}
 use Rattle.cqs_turns_report.specs.declared.states.Progress.TheVariants.{Stepping, Working, Waiting, Ended}
-use Rattle.cqs_turns_report.specs.Ready.{IsReady, wait_in, steps_left, is_held}
+use Rattle.cqs_turns_report.specs.Ready.{IsReady, CanRetry, CanRetryIn, wait_in, steps_left, is_held}
 use Rattle.cqs_turns_report.specs.Roles.{wait_at}
 use Rattle.cqs_turns_report.specs.Running.{IsRunning}
-use Rattle.cqs_turns_report.specs.Turns.{Role, Scene, Made, Acted, Machine, event, take_told, give_told, leave_told, down_told, wait_told, arrive_told, on_take, on_give, on_down, on_wait, on_arrive, after_gives, after_step, after_coming, stop_or, after_steps, after_last_step, on_leave, after_giving_up, after_looking, after_acting, is_due, one_job, opening_machine, machine_after, places_held, left_at, go_on}
+use Rattle.cqs_turns_report.specs.Turns.{Role, Scene, Made, Acted, Machine, event, take_told, give_told, leave_told, down_told, wait_told, arrive_told, on_take, on_give, on_down, on_wait, on_arrive, after_gives, after_step, after_coming, stop_or, after_steps, after_last_step, on_leave, on_retry, after_giving_up, after_looking, after_retrying, after_waiting_long, after_acting, is_over_time, may_retry, retries, one_job, opening_machine, machine_after, places_held, left_at, go_on}
 use Rattle.cqs_turns_report.proofs.Opened.{opening-running}
 use Rattle.cqs_turns_report.proofs.Readied.{first-given, first-ready, leave-ready, after_looking-ready, can-give}
-use Rattle.cqs_turns_report.proofs.RunningLemmas.{room-of, running-on}
 use Rattle.cqs_turns_report.proofs.Stepping.{after_step-ready}
-use Rattle.cqs_turns_report.proofs.Turned.{after_acting-turned}
+use Rattle.cqs_turns_report.proofs.TurnKept.{acts, acts-again}
 use Rattle.cqs_turns_laws.specs.Events.{Line}
 use Rattle.cqs_turns_laws.proofs.Everywhere.{always}
-use Rattle.cqs_turns_laws.proofs.OwnTurn.{role_of}
-use Rattle.cqs_turns_laws.proofs.Kept.{one-job-is}
+use Rattle.cqs_turns_laws.proofs.OwnTurn.{patience_at, retries-gone, retries-may, role_of}
+use Rattle.cqs_turns_laws.proofs.Kept.{has-patience, one-job-is}
 
 -- one of the plan's jobs
 pub record IsActor (plan : Plan) (r : Role) : Type 0 where
@@ -77,6 +78,9 @@ pub record IsKeptByEvents (plan : Plan) (P : Scene → Type 0) : Type 0 where
   pub leaves : (r : Role) (at round number : ℕ) (s : Scene) → IsActor plan r
       → HasWait s.floor r.place at round number → P s
       → P (on_leave r at round number (leave_answer s.floor r.place) s)
+  pub retries : (r : Role) (at round number : ℕ) (s : Scene) → IsActor plan r
+      → HasWait s.floor r.place at round number → leave_answer s.floor r.place ≡ leave.Gone → P s
+      → P (on_retry r at round number s)
   pub downs : (r : Role) (at : ℕ) (s : Scene) → IsActor plan r → IsLatch (slice_get s.floor.kinds at) → P s
       → P (on_down r at s)
   pub awaits : (r : Role) (at : ℕ) (s : Scene) → IsActor plan r → CanAwait s.floor r.place at → P s
@@ -106,6 +110,9 @@ pub record IsToldByEvents (plan : Plan) (P : Scene → List Line → Type 0) : T
       → HasWait s.floor r.place at round number → P s lines
       → P (on_leave r at round number (leave_answer s.floor r.place) s)
       (lines ++ line_of r (leave_told at round number (leave_answer s.floor r.place)) ∷ [])
+  pub retries : (r : Role) (at round number : ℕ) (s : Scene) (lines : List Line) → IsActor plan r
+      → HasWait s.floor r.place at round number → leave_answer s.floor r.place ≡ leave.Gone → P s lines
+      → P (on_retry r at round number s) (lines ++ line_of r (told.Retries at round number) ∷ [])
   pub downs : (r : Role) (at : ℕ) (s : Scene) (lines : List Line) → IsActor plan r
       → IsLatch (slice_get s.floor.kinds at) → P s lines
       → P (on_down r at s) (lines ++ line_of r (down_told at (down_answer s.floor at)) ∷ [])
@@ -208,19 +215,37 @@ module _ (plan : Plan) (P : Scene → Type 0) (kept : IsKeptByEvents plan P) whe
         (kept.serves r at round number element s actor (waits-so s at round number (drop next r.job.steps) ready)
         same holds)
 
-    pub after_acting-keeps : (p : Progress) (s : Scene) → IsReady s.floor r.place (wait_in p) (steps_left r.job.steps p)
-        → P s
-        → P (after_acting r p s).scene
-    after_acting-keeps (Stepping next) s ready holds = after_steps-keeps (drop next r.job.steps) next s ready holds
-    after_acting-keeps (Working next until) s ready holds =
+    after_waiting_long-keeps : (x : Patience) (next at round number : ℕ) (s : Scene)
+        → IsReady s.floor r.place (Some (wait_at at round number)) (drop next r.job.steps)
+        → (may_retry r x ≡ true → CanRetry s.floor r.place r.job.steps next) → P s
+        → P (after_waiting_long r x next at round number (leave_answer s.floor r.place) s).scene
+    after_waiting_long-keeps x next at round number s ready again holds =
+        by (retries r x (leave_answer s.floor r.place)) refl
+      where
+        by : (b : Bool) → retries r x (leave_answer s.floor r.place) ≡ b
+            → P (if b then after_retrying r next at round number s
+            else after_giving_up r at round number (leave_answer s.floor r.place) s).scene
+        by true is =
+            after_steps-keeps (drop (next - 1) r.job.steps) (next - 1) (on_retry r at round number s)
+            (again (retries-may r x (leave_answer s.floor r.place) is)).ready
+            (kept.retries r at round number s actor (waits-so s at round number (drop next r.job.steps) ready)
+            (retries-gone r x (leave_answer s.floor r.place) is) holds)
+        by false is = after_giving_up-keeps at round number s (drop next r.job.steps) ready holds
+
+    pub after_acting-keeps : (x : Patience) (p : Progress) (s : Scene)
+        → IsReady s.floor r.place (wait_in p) (steps_left r.job.steps p) → CanRetryIn s.floor r x p → P s
+        → P (after_acting r x p s).scene
+    after_acting-keeps x (Stepping next) s ready again holds =
+        after_steps-keeps (drop next r.job.steps) next s ready holds
+    after_acting-keeps x (Working next until) s ready again holds =
         if-keeps (nat_lt r.turn until) (left_at s (Working next until)) (go_on r next s) holds
         (after_steps-keeps (drop next r.job.steps) next s ready holds)
-    after_acting-keeps (Waiting next at round number) s ready holds =
-        if-keeps (is_due r.job.deadline r.turn) (after_giving_up r at round number (leave_answer s.floor r.place) s)
+    after_acting-keeps x (Waiting next at round number) s ready again holds =
+        if-keeps (is_over_time r x) (after_waiting_long r x next at round number (leave_answer s.floor r.place) s)
         (after_looking r next at round number (look_answer s.floor r.place) s)
-        (after_giving_up-keeps at round number s (drop next r.job.steps) ready holds)
+        (after_waiting_long-keeps x next at round number s ready again holds)
         (after_looking-keeps next at round number (look_answer s.floor r.place) s ready refl holds)
-    after_acting-keeps (Ended end) s ready holds = holds
+    after_acting-keeps x (Ended end) s ready again holds = holds
 
   -- the machine runs, and its scene keeps the fact
   record Holds (m : Machine) : Type 0 where
@@ -234,13 +259,14 @@ module _ (plan : Plan) (P : Scene → Type 0) (kept : IsKeptByEvents plan P) whe
       let own : (p : Progress) × (slice_get m.progress place ≡ Some p) = get-there m.progress place below in
       let p : Progress = own.0 in
       let r : Role = role_of plan.resources turn place job in
+      let x : Patience = patience_at m place in
+      let patience : slice_get m.patience place ≡ Some x = has-patience plan m place job h.running there in
       let ready : IsReady m.scene.floor place (wait_in p) (steps_left job.steps p)
       = h.running.ready place job p there own.1 in
       subst Holds (sym (one-job-is plan.resources turn place job m p own.1)) (record {
-        running = running-on plan m r p (after_acting r p m.scene) h.running there own.1
-            (after_acting-turned r p m.scene ready (room-of plan m place job h.running runnable there p own.1)
-            (h.running.rounds place job p there own.1));
-        holds = after_acting-keeps r (record { resources = refl; job = there }) p m.scene ready h.holds;
+        running = (acts plan m r x h.running runnable there patience p own.1).running;
+        holds = after_acting-keeps r (record { resources = refl; job = there }) x p m.scene ready
+            (acts-again plan m r x h.running runnable there patience p own.1) h.holds;
       })
 
   pub always-holds : (turns : ℕ) → IsRunnable plan → P (opening_machine plan).scene

@@ -17,29 +17,29 @@ use Rattle.cqs_plan.specs.declared.floors.answers.FloorLook.TheVariants.{Pending
 use Rattle.cqs_plan.specs.declared.floors.answers.FloorLeave.{FloorLeave}
 use Rattle.cqs_plan.specs.declared.floors.answers.FloorLeave.TheVariants as leave
 use Rattle.cqs_plan.specs.FloorHistory.{Deed, takes, joins, frees, sends, gets, leaves, is_late, passes, counts, opens, is_open, completes}
-use Rattle.cqs_plan.specs.Floor.{PlainFloor, JobWait, Holding, first_free_at, history_at, holds_of, is_holdable, oldest, round_of, standing_at, stands_in, wait_of, with_done_in, with_newest, with_wait}
+use Rattle.cqs_plan.specs.Floor.{PlainFloor, JobWait, Holding, came_to, first_free_at, history_at, holds_of, is_holdable, oldest, round_of, standing_at, stands_in, wait_of, with_done_in, with_newest, with_wait}
 use Rattle.cqs_plan.specs.FloorCalls.{after_take, after_give, after_down, after_wait, after_arrive, after_leave, down_answer, give_of, is_in_line, leave_answer, look_answer, with_granted, with_left}
 use Rattle.cqs_plan.specs.Runnable.{IsRunnable}
+use Rattle.cqs_turns_report.specs.declared.states.Patience.{Patience}
 use Rattle.cqs_turns_report.specs.declared.states.Progress.{Progress}
 use Rattle.cqs_turns_report.specs.declared.states.Progress.TheVariants.{Stepping, Working, Waiting, Ended}
 use Rattle.cqs_turns_report.specs.Ready.{IsReady, wait_in, steps_left}
 use Rattle.cqs_turns_report.specs.Roles.{wait_at}
 use Rattle.cqs_turns_report.specs.Running.{IsRunning}
-use Rattle.cqs_turns_report.specs.Turns.{Role, Scene, Acted, Machine, after_acting, after_coming, after_giving_up, after_looking, after_step, after_steps, is_due, machine_after, on_arrive, on_take, on_wait, one_job, stop_or}
-use Rattle.cqs_turns_report.proofs.RunningLemmas.{room-of, running-on}
-use Rattle.cqs_turns_report.proofs.Turned.{after_acting-turned}
+use Rattle.cqs_turns_report.specs.Turns.{Role, Scene, Acted, Machine, after_acting, after_coming, after_looking, after_step, after_steps, after_waiting_long, is_over_time, machine_after, on_arrive, on_take, on_wait, one_job, patience_after, stop_or}
+use Rattle.cqs_turns_report.proofs.TurnKept.{acts, acts-again}
 use Rattle.cqs_turns_laws.specs.Endings.{NoWaitOutlivesItsService}
 use Rattle.cqs_turns_laws.specs.Events.{Line}
 use Rattle.cqs_turns_laws.proofs.DeedParts.{HasPart}
 use Rattle.cqs_turns_laws.proofs.Deeds.{JoinsNext}
 use Rattle.cqs_turns_laws.proofs.Everywhere.{through-turn}
 use Rattle.cqs_turns_laws.proofs.JobStories.{told-of}
-use Rattle.cqs_turns_laws.proofs.Kept.{one-job-is, with_acted}
+use Rattle.cqs_turns_laws.proofs.Kept.{has-patience, one-job-is, with_acted}
 use Rattle.cqs_turns_laws.proofs.Leaving.{IsGone, Later, later-by}
 use Rattle.cqs_turns_laws.proofs.Lifting.{IsKeptByEvents, HasWait, after_acting-keeps}
 use Rattle.cqs_turns_laws.proofs.Lined.{changed_floor}
 use Rattle.cqs_turns_laws.proofs.Objects.{holdable-below, latch-below, round-below}
-use Rattle.cqs_turns_laws.proofs.OwnTurn.{role_of}
+use Rattle.cqs_turns_laws.proofs.OwnTurn.{patience_at, role_of}
 use Rattle.cqs_turns_laws.proofs.Telling.{IsTelling, told-by-events, there-of, held-there, latch-there, round-there, wait-there}
 
 -- what each call makes of the lines
@@ -95,7 +95,7 @@ module _ (f : PlainFloor) (place at : ℕ) (there : at < length f.histories) whe
       → HasPart (history_at f at) round → Later f (after_leave f place answer)
   leaves-later round number leave.Gone has part =
       let Goal : Option JobWait → Type 0 = λ o. Later f (with_left f place o) in
-      subst Goal (sym has.waits) (later-by f at round (leaves number) there part tt f.room _ f.holds f.rounds)
+      subst Goal (sym has.waits) (later-by f at round (leaves number) there part tt f.room _ f.holds _)
   leaves-later round number (leave.Late element) has part =
       granted-later round number element is_late has part (λ n. tt)
 
@@ -135,6 +135,13 @@ after-kept plan f = record {
     later = λ q n k gone. leaves-later s.floor r.place at
         (wait-there plan r actor s h.lines h.tells at round number has) round number (leave_answer s.floor r.place) has
         (h.tells.lined.parts r.place (wait_at at round number) has.waits) q n k (h.later q n k gone);
+  };
+  retries = λ r at round number s actor has gone h. record {
+    lines = _;
+    tells = (told-by-events plan).retries r at round number s h.lines actor has gone h.tells;
+    later = λ q n k before. leaves-later s.floor r.place at
+        (wait-there plan r actor s h.lines h.tells at round number has) round number leave.Gone has
+        (h.tells.lined.parts r.place (wait_at at round number) has.waits) q n k (h.later q n k before);
   };
   downs = λ r at s actor kind h. record {
     lines = _;
@@ -202,12 +209,12 @@ steps-past r (Arrive at ∷ rest) next s =
     past-coming r next at (round_of s.floor r.place at) (on_arrive r at) _ rest s
     (λ t. steps-past r rest (next + 1) t)
 
--- a job that looks, and isn't in the line, waits no longer for this step
-looks-past : (r : Role) (next at round number : ℕ) (s : Scene)
+-- a job that looks, or is over time, and isn't in the line, waits no longer for this step
+looks-past : (r : Role) (x : Patience) (next at round number : ℕ) (s : Scene)
     → wait_of s.floor r.place ≡ Some (wait_at at round number)
     → is_in_line s.floor (wait_at at round number) ≡ false
-    → IsPast next (after_acting r (Waiting next at round number) s).progress
-looks-past r next at round number s waits away = by (is_due r.job.deadline r.turn)
+    → IsPast next (after_acting r x (Waiting next at round number) s).progress
+looks-past r x next at round number s waits away = by (is_over_time r x)
   where
     looks : (answer : FloorLook) → answer ≢ Pending
         → IsPast next (after_looking r next at round number answer s).progress
@@ -217,9 +224,14 @@ looks-past r next at round number s waits away = by (is_due r.job.deadline r.tur
     some : look_answer s.floor r.place ≢ Pending
     some is = let no : Granted _ ≡ Pending = rw (waits, away) at is in absurd (cc)
 
-    by : (b : Bool) → IsPast next (if b then after_giving_up r at round number (leave_answer s.floor r.place) s
+    -- it is late
+    late : leave_answer s.floor r.place ≡ leave.Late (came_to s.floor (wait_at at round number))
+    late = rw (waits, away) refl
+
+    by : (b : Bool)
+        → IsPast next (if b then after_waiting_long r x next at round number (leave_answer s.floor r.place) s
         else after_looking r next at round number (look_answer s.floor r.place) s).progress
-    by true = tt
+    by true = rw late tt
     by false = looks (look_answer s.floor r.place) some
 
 waits-no_more : (next at round number : ℕ) (p : Progress) → IsPast next p → p ≢ Waiting next at round number
@@ -243,8 +255,14 @@ module _ (plan : Plan) (runnable : IsRunnable plan) (turn place : ℕ) (job : Jo
   abbrev role : Role
   role = role_of plan.resources turn place job
 
+  abbrev x : Patience
+  x = patience_at m place
+
   abbrev a : Acted
-  a = after_acting role p m.scene
+  a = after_acting role x p m.scene
+
+  own-patience : slice_get m.patience place ≡ Some x
+  own-patience = has-patience plan m place job h.running there
 
   ready : IsReady m.scene.floor place (wait_in p) (steps_left job.steps p)
   ready = h.running.ready place job p there got
@@ -259,24 +277,22 @@ module _ (plan : Plan) (runnable : IsRunnable plan) (turn place : ℕ) (job : Jo
       let is : p ≡ Waiting n at round number = cc in
       let waits : wait_of m.scene.floor place ≡ wait_in p = ready.waits in
       let own : wait_of m.scene.floor place ≡ Some (wait_at at round number) = waits ∙ ap wait_in is in
-      let past : IsPast n (after_acting role (Waiting n at round number) m.scene).progress
-      = looks-past role n at round number m.scene own (h.is.later at round number gone).gone in
+      let past : IsPast n (after_acting role x (Waiting n at round number) m.scene).progress
+      = looks-past role x n at round number m.scene own (h.is.later at round number gone).gone in
       let acted : slice_get (set m.progress place a.progress) place ≡ Some a.progress
       = get-set_here m.progress place p a.progress got in
       let ends : Some a.progress ≡ Some (Waiting n at round number) = sym acted ∙ now in
       let is_so : a.progress ≡ Waiting n at round number = cc in
-      let then_so : (after_acting role (Waiting n at round number) m.scene).progress ≡ a.progress
-      = ap (λ x. (after_acting role x m.scene).progress) (sym is) in
+      let then_so : (after_acting role x (Waiting n at round number) m.scene).progress ≡ a.progress
+      = ap (λ q. (after_acting role x q m.scene).progress) (sym is) in
       waits-no_more n at round number _ past (then_so ∙ is_so)
 
-  turn-after : IsInTurn plan turn (place + 1) (with_acted m place a)
+  turn-after : IsInTurn plan turn (place + 1) (with_acted m place a (patience_after role x p m.scene))
   turn-after = record {
-    running = running-on plan m role p a h.running there got
-        (after_acting-turned role p m.scene ready (room-of plan m place job h.running runnable there p got)
-        (h.running.rounds place job p there got));
+    running = (acts plan m role x h.running runnable there own-patience p got).running;
     is = after_acting-keeps plan (IsAfter plan (machine_after plan turn).scene.floor)
-        (after-kept plan (machine_after plan turn).scene.floor) role (record { resources = refl; job = there }) p
-        m.scene ready h.is;
+        (after-kept plan (machine_after plan turn).scene.floor) role (record { resources = refl; job = there })
+        x p m.scene ready (acts-again plan m role x h.running runnable there own-patience p got) h.is;
     coming = λ j past.
         get-set_else m.progress place j a.progress (λ same. omega (arith, same, past))
         ∙ h.coming j (omega (arith, past));

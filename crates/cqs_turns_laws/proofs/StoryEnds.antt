@@ -21,9 +21,9 @@ use Rattle.cqs_turns_report.specs.declared.states.End.{End}
 use Rattle.cqs_turns_report.specs.declared.states.End.TheVariants as end
 use Rattle.cqs_turns_report.specs.declared.states.Progress.TheVariants.{Ended}
 use Rattle.cqs_turns_report.specs.Turns.{machine_after}
-use Rattle.cqs_turns_laws.specs.Endings.{HasCome, HasMadeAllSteps, NobodyGivesUpEarly, WhoIsDoneMadeAllSteps, is_told, made_step, turns_of, waited_for}
+use Rattle.cqs_turns_laws.specs.Endings.{HasCome, HasMadeAllSteps, MayEnd, NobodyGivesUpEarly, WhoIsDoneMadeAllSteps, is_told, made_step, turns_of, waited_for}
 use Rattle.cqs_turns_laws.specs.Events.{Line}
-use Rattle.cqs_turns_laws.specs.Stories.{TellsOf, Stage, AtStep, InWait, Closing, Over, Story, lasts, AreStories, own_lines}
+use Rattle.cqs_turns_laws.specs.Stories.{TellsOf, Stage, AtStep, InWait, Closing, Over, Story, IsDue, IsOutwaited, lasts, AreStories, own_lines, retries_in}
 use Rattle.cqs_turns_laws.specs.Stories as story
 use Rattle.cqs_turns_laws.proofs.Everywhere.{all-jobs}
 use Rattle.cqs_turns_laws.proofs.StoryLines.{each-push}
@@ -248,8 +248,12 @@ module _ (resources : List Resource) (job : Job) (able : AreMakeable (kinds_of r
             ∙ sym (steps-next job.steps next so.2 so.3 there.told_so),
         omega (arith, so.1, later, worked-next job.steps next so.2 so.3, there.idle),
       )
-  says (story.gives_up lines next at round number since deadline held line words later has come before) = tt
-  says (story.is_late lines next at round number since deadline held step line is words later has come before) = tt
+  says (story.tries_again lines next at round number since held line words later out early left before) =
+      let so = says before in
+      let none : made_step resources line.told ≡ None = rw words refl in
+      (made-still resources lines line none ∙ so.0, omega (arith, so.1, later))
+  says (story.gives_up lines next at round number since held line words later why before) = tt
+  says (story.is_late lines next at round number since held step line is words later why before) = tt
   says (story.has_made_all lines next from held past before) =
       let so = says before in
       let all : take next job.steps ≡ job.steps = take_all next job.steps past in
@@ -276,11 +280,22 @@ module _ (resources : List Resource) (job : Job) (able : AreMakeable (kinds_of r
   says (story.has_left lines e turn which before) = left-says lines e which
 
 module _ (job : Job) where
-  -- the line gives up, or is late, only at a deadline of the job that has come
+  -- the line gives up, or is late, only where the job may
   abbrev IsTimely : Line → Type 0
   IsTimely line =
       (at round number : ℕ) → (line.told ≡ told.GaveUp at round number) ⊎ (line.told ≡ told.Late at round number)
-      → (deadline : ℕ) × (job.deadline ≡ Some deadline) × (deadline ≤ line.turn)
+      → MayEnd job line.turn
+
+  out-ends : (since turn : ℕ) → IsOutwaited job since turn → MayEnd job turn
+  out-ends since turn out = inr (out.0, out.1, omega (arith, out.2))
+
+  late-ends : (since turn : ℕ) → IsDue job turn ⊎ IsOutwaited job since turn → MayEnd job turn
+  late-ends since turn (inl due) = inl due
+  late-ends since turn (inr out) = out-ends since turn out
+
+  up-ends : (since turn n : ℕ) → IsDue job turn ⊎ (IsOutwaited job since turn × (job.retry ≤ n)) → MayEnd job turn
+  up-ends since turn n (inl due) = inl due
+  up-ends since turn n (inr out) = out-ends since turn out.0
 
   -- a line that tells something else
   else-timely : (line : Line) (leaves : Told → Bool)
@@ -296,6 +311,7 @@ module _ (job : Job) where
   leaves_wait (told.GaveUp at round number) = true
   leaves_wait (told.Late at round number) = true
   leaves_wait (told.Takes at element) = false
+  leaves_wait (told.Retries at round number) = false
   leaves_wait (told.Waits at round number) = false
   leaves_wait (told.Served at round number element) = false
   leaves_wait (told.GivesFree at element) = false
@@ -337,11 +353,13 @@ module _ (job : Job) where
   timely (story.is_served lines next at round number since element held step line is words later early before) n x got =
       each-push IsTimely lines line (timely before) (words-stay line (told.Served at round number element) words refl)
       n x got
-  timely (story.gives_up lines next at round number since deadline held line words later has come before) n x got =
-      each-push IsTimely lines line (timely before) (λ p q k either. (deadline, has, come)) n x got
-  timely (story.is_late lines next at round number since deadline held step line is words later has come before) n x
-      got =
-      each-push IsTimely lines line (timely before) (λ p q k either. (deadline, has, come)) n x got
+  timely (story.tries_again lines next at round number since held line words later out early left before) n x got =
+      each-push IsTimely lines line (timely before) (words-stay line (told.Retries at round number) words refl) n x got
+  timely (story.gives_up lines next at round number since held line words later why before) n x got =
+      each-push IsTimely lines line (timely before)
+      (λ p q k either. up-ends since line.turn (retries_in lines) why) n x got
+  timely (story.is_late lines next at round number since held step line is words later why before) n x got =
+      each-push IsTimely lines line (timely before) (λ p q k either. late-ends since line.turn why) n x got
   timely (story.has_made_all lines next from held past before) n x got = timely before n x got
   timely (story.gives_back lines e at held line tells_of before) n x got =
       each-push IsTimely lines line (timely before) (stays line (made-stays tells_of)) n x got
@@ -384,8 +402,7 @@ nobody-gives-up-early plan turns runnable =
           = omega (arith, all-jobs plan turns, below) in
           let p = get-there (machine_after plan turns).progress line.job within in
           let has = stories.jobs line.job job.0 p.0 job.1 p.1 in
-          let due = timely job.0 has.story own.0 line own.1 at round number either in
-          record { job = job.0; is = job.1; deadline = due.0; has = due.1; come = due.2 }
+          record { job = job.0; is = job.1; may = timely job.0 has.story own.0 line own.1 at round number either }
       by (inr past) =
           let none : own_lines line.job lines ≡ [] = stories.nobody line.job past in
           let no : slice_get [] own.0 ≡ Some line = rw none at own.1 in absurd (cc)

@@ -1,7 +1,8 @@
 -- What a job holds at each stage of its story, and how far the machine has it then.
-use Rattle.std.proofs.Common.{◌≡◌, ◌⊎◌, inl, inr, ℕ, zero, suc, ◌+◌, ◌<◌, ◌≤◌, List, [], ◌∷◌, ◌++◌, true, false, Option, Some, None, length, map, drop, slice_get, refl, sym, ap, subst, ◌∙◌, eqb-true, leb-true, leb-false, arith}
-use Rattle.std.specs.Option.{option_map_or}
-use Rattle.std.proofs.lemmas.Bool.{cases_lt}
+use Rattle.std.proofs.Common.{◌≡◌, ◌⊎◌, inl, inr, ℕ, zero, suc, ◌+◌, ◌<◌, ◌≤◌, List, [], ◌∷◌, ◌++◌, Bool, true, false, ◌&&◌, ◌||◌, not, nat_lt, cond, Option, Some, None, length, map, drop, slice_get, refl, sym, ap, subst, ◌∙◌, eqb-true, leb-true, leb-false, ltb-true, ltb-false, arith}
+use Rattle.std.specs.Option.{option_map, option_map_or}
+use Rattle.std.proofs.lemmas.Bool.{cases_lt, or_parts}
+use Rattle.std.proofs.lemmas.List.Sums.{sum_by_push}
 use Rattle.std.proofs.lemmas.List.{drop-drop, get_or-set_same, map-append}
 use Rattle.cqs_core.proofs.Places.{get-drop}
 use Rattle.cqs_plan.specs.declared.plans.job.Job.{Job}
@@ -23,13 +24,16 @@ use Rattle.cqs_plan.specs.declared.plans.resource.Resource.{Resource}
 use Rattle.cqs_plan.specs.FloorCalls.{after_take}
 use Rattle.cqs_plan.specs.Runnable.{IsMakeable, kinds_of}
 use Rattle.cqs_turns_report.specs.declared.states.End.TheVariants as end
+use Rattle.cqs_turns_report.specs.declared.lines.Told.{Told}
+use Rattle.cqs_turns_report.specs.declared.states.Patience.{Patience}
 use Rattle.cqs_turns_report.specs.declared.states.Progress.{Progress}
 use Rattle.cqs_turns_report.specs.declared.states.Progress.TheVariants.{Stepping, Working, Waiting, Ended}
 use Rattle.cqs_turns_report.specs.Ready.{held_next, is_holdable_in, with_place}
 use Rattle.cqs_turns_report.specs.Roles.{is_holdable_at, left_with}
-use Rattle.cqs_turns_report.specs.Turns.{give_told, down_told, is_due, end_of, places_held}
+use Rattle.cqs_turns_report.specs.Turns.{Role, give_told, down_told, is_due, is_outwaited, is_over_time, may_retry, end_of, places_held}
 use Rattle.cqs_turns_report.proofs.HoldablePlaces.{held-kind, holdable-same}
-use Rattle.cqs_turns_laws.specs.Stories.{TellsOf, Stage, AtStep, InWait, Closing, Over, GoesOn, CountsAs, lasts}
+use Rattle.cqs_turns_laws.specs.Stories.{Story, TellsOf, Stage, AtStep, InWait, Closing, Over, GoesOn, CountsAs, IsDue, IsInTime, IsOutwaited, MayWaitOn, is_retry, lasts, retries_in}
+use Rattle.cqs_turns_laws.specs.Events.{Line}
 use Rattle.cqs_turns_laws.specs.Stories as story
 
 -- what is told of a give, and of a count down
@@ -49,30 +53,30 @@ held_at (InWait next at round number since held) = held
 held_at (Closing end turn held) = held
 held_at (Over end) = []
 
--- how far the machine has a job that is at this stage of its story, before its turn
-abbrev pub IsAt : Job → ℕ → Progress → Stage → Type 0
-IsAt job turn (Stepping next) stage = (held : List ℕ) × (stage ≡ AtStep next turn held)
-IsAt job turn (Working next until) stage =
+-- how far the machine has a job that is at this stage of its story, before its turn, and since when it waits
+abbrev pub IsAt : Job → ℕ → ℕ → Progress → Stage → Type 0
+IsAt job turn moved (Stepping next) stage = (held : List ℕ) × (stage ≡ AtStep next turn held)
+IsAt job turn moved (Working next until) stage =
     (from : ℕ) × (held : List ℕ) × (stage ≡ AtStep next from held) × (until ≤ turn → from ≡ turn)
     × (turn ≤ until → from ≡ until)
-IsAt job turn (Waiting next at round number) stage =
+IsAt job turn moved (Waiting next at round number) stage =
     (index since : ℕ) × (held : List ℕ) × (step : Step) × (next ≡ index + 1)
     × (slice_get job.steps index ≡ Some step) × (may_wait at step ≡ true)
     × (stage ≡ InWait index at round number since held) × (since < turn)
-    × ((d : ℕ) → job.deadline ≡ Some d → (turn ≤ d) ⊎ (turn ≤ since + 1))
-IsAt job turn (Ended end) stage = stage ≡ Over end
+    × MayWaitOn turn job since × (moved ≡ since)
+IsAt job turn moved (Ended end) stage = stage ≡ Over end
 
-pub counts-as : (job : Job) (turn : ℕ) (p : Progress) (stage : Stage) → IsAt job turn p stage
-    → CountsAs turn job.deadline p stage
-counts-as job turn (Stepping next) stage at = subst (GoesOn turn job.deadline) (sym at.1) (omega arith)
-counts-as job turn (Working next until) stage at =
-    subst (GoesOn turn job.deadline) (sym at.2) (by (cases_lt turn until))
+pub counts-as : (job : Job) (turn moved : ℕ) (p : Progress) (stage : Stage) → IsAt job turn moved p stage
+    → CountsAs turn job p stage
+counts-as job turn moved (Stepping next) stage at = subst (GoesOn turn job) (sym at.1) (omega arith)
+counts-as job turn moved (Working next until) stage at =
+    subst (GoesOn turn job) (sym at.2) (by (cases_lt turn until))
   where
     by : (turn < until) ⊎ (until ≤ turn) → turn ≤ at.0
     by (inl below) = omega (arith, below, at.4 (omega (arith, below)))
     by (inr past) = omega (arith, at.3 past)
-counts-as job turn (Waiting next place round number) stage at = subst (GoesOn turn job.deadline) (sym at.7) at.9
-counts-as job turn (Ended end) stage at = at
+counts-as job turn moved (Waiting next place round number) stage at = subst (GoesOn turn job) (sym at.7) at.9
+counts-as job turn moved (Ended end) stage at = at
 
 -- what can be held, by its kind
 latch-unheld : (k : Option Kind) → IsLatch k → option_map_or can_hold k false ≡ false
@@ -157,6 +161,114 @@ not-come (Some e) turn d due is =
     let same : e ≡ d = cc in
     let before : turn < e = leb-false e turn due in
     omega (arith, same, before)
+
+-- a wait since a turn has lasted too long, or not
+pub outwaited-so : (r : Role) (x : Patience) → is_outwaited r x ≡ true → IsOutwaited r.job x.since r.turn
+outwaited-so r x out = go r.job.within refl out
+  where
+    go : (o : Option ℕ) → r.job.within ≡ o → is_due (option_map (λ w. x.since + w) o) r.turn ≡ true
+        → IsOutwaited r.job x.since r.turn
+    go None is due = absurd (cc)
+    go (Some w) is due = (w, is, leb-true (x.since + w) r.turn due)
+
+pub waits-on : (r : Role) (x : Patience) (w : ℕ) → is_outwaited r x ≡ false → r.job.within ≡ Some w
+    → r.turn < x.since + w
+waits-on r x w calm is =
+    let out : is_due (Some (x.since + w)) r.turn ≡ false
+    = ap (λ o. is_due (option_map (λ n. x.since + n) o) r.turn) (sym is) ∙ calm in
+    leb-false (x.since + w) r.turn out
+
+-- who isn't over time is in time
+pub in-time : (r : Role) (x : Patience) → is_over_time r x ≡ false → IsInTime r.job x.since r.turn
+in-time r x calm =
+    let both = or_parts (is_due r.job.deadline r.turn) (is_outwaited r x) calm in
+    record {
+      deadline = λ d has. not-come r.job.deadline r.turn d both.0 has;
+      within = λ w has. waits-on r x w both.1 has;
+    }
+
+-- who is over time is due, or has waited too long
+pub over-time : (r : Role) (x : Patience) → is_over_time r x ≡ true
+    → IsDue r.job r.turn ⊎ IsOutwaited r.job x.since r.turn
+over-time r x over = go (is_due r.job.deadline r.turn) refl (is_outwaited r x) refl over
+  where
+    go : (a : Bool) → is_due r.job.deadline r.turn ≡ a → (b : Bool) → is_outwaited r x ≡ b → (a || b) ≡ true
+        → IsDue r.job r.turn ⊎ IsOutwaited r.job x.since r.turn
+    go true due b out is = inl (has-come r.job.deadline r.turn due)
+    go false due true out is = inr (outwaited-so r x out)
+    go false due false out is = absurd (cc)
+
+-- who may retry isn't due, and has a retry left; who may not is due, or has none
+pub may-so : (r : Role) (x : Patience) → may_retry r x ≡ true
+    → (is_due r.job.deadline r.turn ≡ false) × (x.used < r.job.retry)
+may-so r x may = go (is_due r.job.deadline r.turn) refl may
+  where
+    go : (a : Bool) → is_due r.job.deadline r.turn ≡ a → (not a && nat_lt x.used r.job.retry) ≡ true
+        → (is_due r.job.deadline r.turn ≡ false) × (x.used < r.job.retry)
+    go true due is = absurd (cc)
+    go false due is = (due, ltb-true x.used r.job.retry is)
+
+pub may-not : (r : Role) (x : Patience) → may_retry r x ≡ false → IsDue r.job r.turn ⊎ (r.job.retry ≤ x.used)
+may-not r x may = go (is_due r.job.deadline r.turn) refl may
+  where
+    go : (a : Bool) → is_due r.job.deadline r.turn ≡ a → (not a && nat_lt x.used r.job.retry) ≡ false
+        → IsDue r.job r.turn ⊎ (r.job.retry ≤ x.used)
+    go true due is = inl (has-come r.job.deadline r.turn due)
+    go false due is = inr (ltb-false x.used r.job.retry is)
+
+-- one more line that tells of no retry, and one that does
+pub count-plain : (lines : List Line) (line : Line) → is_retry line.told ≡ false
+    → retries_in (lines ++ line ∷ []) ≡ retries_in lines
+count-plain lines line plain =
+    omega (
+      arith,
+      sum_by_push (λ (x : Line). cond (is_retry x.told) 1 0) lines line,
+      ap (λ b. cond {A = ℕ} b 1 0) plain,
+    )
+
+pub count-retry : (lines : List Line) (line : Line) → is_retry line.told ≡ true
+    → retries_in (lines ++ line ∷ []) ≡ retries_in lines + 1
+count-retry lines line is =
+    omega (
+      arith,
+      sum_by_push (λ (x : Line). cond (is_retry x.told) 1 0) lines line,
+      ap (λ b. cond {A = ℕ} b 1 0) is,
+    )
+
+-- a step that is made at once tells of no retry
+pub tells-plain : {step : Step} {t : Told} → TellsOf step t → is_retry t ≡ false
+tells-plain (story.takes at element) = refl
+tells-plain (story.gives_free at element) = refl
+tells-plain (story.gives_sent at element number) = refl
+tells-plain (story.downs_left at left) = refl
+tells-plain (story.downs_open at) = refl
+tells-plain (story.downs_already at) = refl
+tells-plain (story.passes at) = refl
+tells-plain (story.arrives_last at round) = refl
+
+-- no job retries more often than it may
+pub retries-few : (job : Job) {lines : List Line} {stage : Stage} → Story job lines stage
+    → retries_in lines ≤ job.retry
+retries-few job story.begins = omega arith
+retries-few job (story.works lines next from turns held is before) = retries-few job before
+retries-few job (story.makes lines next from held step line is tells_of now before) =
+    omega (arith, retries-few job before, count-plain lines line (tells-plain tells_of))
+retries-few job (story.waits lines next from at round number held step line is may words now before) =
+    omega (arith, retries-few job before, count-plain lines line (ap is_retry words))
+retries-few job (story.is_served lines next at round number since element held step line is words later calm before) =
+    omega (arith, retries-few job before, count-plain lines line (ap is_retry words))
+retries-few job (story.tries_again lines next at round number since held line words later out early left before) =
+    omega (arith, left, count-retry lines line (ap is_retry words))
+retries-few job (story.gives_up lines next at round number since held line words later why before) =
+    omega (arith, retries-few job before, count-plain lines line (ap is_retry words))
+retries-few job (story.is_late lines next at round number since held step line is words later why before) =
+    omega (arith, retries-few job before, count-plain lines line (ap is_retry words))
+retries-few job (story.has_made_all lines next from held past before) = retries-few job before
+retries-few job (story.gives_back lines e at held line tells_of before) =
+    omega (arith, retries-few job before, count-plain lines line (tells-plain tells_of))
+retries-few job (story.is_done lines line words before) =
+    omega (arith, retries-few job before, count-plain lines line (ap is_retry words))
+retries-few job (story.has_left lines e turn which before) = retries-few job before
 
 pub ends-of : (answer : FloorLeave) → (end_of answer ≡ end.GaveUp) ⊎ (end_of answer ≡ end.Late)
 ends-of leave.Gone = inl refl

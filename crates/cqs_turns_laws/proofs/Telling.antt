@@ -23,7 +23,7 @@ use Rattle.cqs_turns_report.specs.declared.lines.Told.{Told}
 use Rattle.cqs_turns_report.specs.declared.lines.Told.TheVariants as told
 use Rattle.cqs_turns_report.specs.Lines.{is_pool, is_pool_at, line_text}
 use Rattle.cqs_turns_report.specs.Roles.{wait_at}
-use Rattle.cqs_turns_report.specs.Turns.{Role, Scene, event, take_told, give_told, leave_told, down_told, wait_told, arrive_told, on_take, on_give_answer, on_down_answer, on_wait, on_arrive, on_leave, opening_machine}
+use Rattle.cqs_turns_report.specs.Turns.{Role, Scene, event, take_told, give_told, leave_told, down_told, wait_told, arrive_told, on_take, on_give_answer, on_down_answer, on_wait, on_arrive, on_leave, on_retry, opening_machine}
 use Rattle.cqs_turns_laws.specs.Events.{Line, name_of, lines_text, draws_at, drawn_at, WasSent, MayTell}
 use Rattle.cqs_turns_laws.proofs.DeedParts.{HasPart, IsOfKind, held-part, is_of_pool, latch-part, round-part}
 use Rattle.cqs_turns_laws.proofs.Deeds.{HasSeats, IsElse, JoinsNext, came-sent, draws, line-joins, next-after, standing-away}
@@ -261,18 +261,16 @@ module _ (plan : Plan) (r : Role) (actor : IsActor plan r) (s : Scene) (lines : 
         by true = held (set f.holds r.place (holds_of f r.place ++ record { at = at; element = element } ∷ []))
         by false = held f.holds
 
-  -- the wait of the job leaves the line
-  gone : (at round number : ℕ) → HasWait f r.place at round number → at < length f.histories
-      → IsTelling plan (event r s (with_left f r.place (wait_of f r.place)) (told.GaveUp at round number))
-      (lines ++ line_of r (told.GaveUp at round number) ∷ [])
-  gone at round number has there =
+  -- the wait of the job leaves the line, with words that neither draw a number nor send anything
+  gone : (at round number : ℕ) (words : Told) → HasWait f r.place at round number → at < length f.histories
+      → Tells at round (leaves number) words
+      → IsTelling plan (event r s (with_left f r.place (wait_of f r.place)) words) (lines ++ line_of r words ∷ [])
+  gone at round number words has there told_so =
       let Goal : Option JobWait → Type 0 =
-      λ o. IsTelling plan (event r s (with_left f r.place o) (told.GaveUp at round number))
-      (lines ++ line_of r (told.GaveUp at round number) ∷ []) in
+      λ o. IsTelling plan (event r s (with_left f r.place o) words) (lines ++ line_of r words ∷ []) in
       let part : HasPart (history_at f at) round = tells.lined.parts r.place (wait_at at round number) has.waits in
       subst Goal (sym has.waits)
-      (calm-tells at round (leaves number) there part f.room _ f.holds f.rounds (told.GaveUp at round number)
-      (record { here = refl; away = λ q k other. refl; may = tt })
+      (calm-tells at round (leaves number) there part f.room _ f.holds _ words told_so
       tt (λ j w waits. (wait-gone f r.place j w has.job.waits waits).1)
       (λ j w waits here own. inl (apart j w (wait-gone f r.place j w has.job.waits waits) here own))) where
         -- another's wait in this round has another number
@@ -281,6 +279,20 @@ module _ (plan : Plan) (r : Role) (actor : IsActor plan r) (s : Scene) (lines : 
         apart j w other here same_round same =
             let own : w ≡ wait_at at round number = rw (← here, ← same_round, ← same) refl in
             other.0 (tells.lined.apart j r.place w other.1 (has.waits ∙ ap Some (sym own)))
+
+  gives-up : (at round number : ℕ) → HasWait f r.place at round number → at < length f.histories
+      → IsTelling plan (event r s (with_left f r.place (wait_of f r.place)) (told.GaveUp at round number))
+      (lines ++ line_of r (told.GaveUp at round number) ∷ [])
+  gives-up at round number has there =
+      gone at round number (told.GaveUp at round number) has there
+      (record { here = refl; away = λ q k other. refl; may = tt })
+
+  -- and where the job tries again
+  retries-so : (at round number : ℕ) → HasWait f r.place at round number → at < length f.histories
+      → IsTelling plan (on_retry r at round number s) (lines ++ line_of r (told.Retries at round number) ∷ [])
+  retries-so at round number has there =
+      gone at round number (told.Retries at round number) has there
+      (record { here = refl; away = λ q k other. refl; may = tt })
 
   -- a job begins to wait, under the next number
   module _ (at round : ℕ) (there : at < length f.histories) (part : HasPart (history_at f at) round)
@@ -464,7 +476,7 @@ module _ (plan : Plan) (r : Role) (actor : IsActor plan r) (s : Scene) (lines : 
           (lines ++ line_of r (leave_told at round number (leave_answer f r.place)) ∷ [])
       go true stands =
           let gone_answer : leave_answer f r.place ≡ leave.Gone = rw (has.waits, stands) refl in
-          rw gone_answer (gone at round number has there)
+          rw gone_answer (gives-up at round number has there)
       go false away =
           let came : ℕ = came_to f (wait_at at round number) in
           let late_answer : leave_answer f r.place ≡ leave.Late came = rw (has.waits, away) refl in
@@ -538,6 +550,9 @@ told-by-events plan = record {
       (wait-there plan r actor s lines tells at round number has) served;
   leaves = λ r at round number s lines actor has tells.
       leaves-so plan r actor s lines tells at round number has
+      (wait-there plan r actor s lines tells at round number has);
+  retries = λ r at round number s lines actor has gone tells.
+      retries-so plan r actor s lines tells at round number has
       (wait-there plan r actor s lines tells at round number has);
   downs = λ r at s lines actor kind tells. downs plan r actor s lines tells at (down_answer s.floor at)
       (there-of plan r actor s lines tells at (latch-below s.floor.kinds at kind))

@@ -53,16 +53,20 @@ NoWaitOutlivesItsService =
     → is_in_line (machine_after plan turn).scene.floor (wait_at at round number) ≡ false
     → progress_of plan (turn + 1) place ≢ Some (Waiting next at round number)
 
--- the job of the line has a deadline, which has come by then
+-- the job has a deadline, which has come in this turn; or its waits may last for no more turns than
+-- there were
+abbrev pub MayEnd : Job → ℕ → Type 0
+MayEnd job turn =
+    ((deadline : ℕ) × (job.deadline ≡ Some deadline) × (deadline ≤ turn))
+    ⊎ ((within : ℕ) × (job.within ≡ Some within) × (within ≤ turn))
+
 pub record HasCome (plan : Plan) (line : Line) : Type 0 where
   pub job : Job
   pub is : slice_get plan.jobs line.job ≡ Some job
-  pub deadline : ℕ
-  pub has : job.deadline ≡ Some deadline
-  pub come : deadline ≤ line.turn
+  pub may : MayEnd job line.turn
 
--- the lines of each report tell of no job that it gave up, or was late, where it has no deadline or
--- before that has come
+-- the lines of each report tell of no job that it gave up, or was late, where neither its deadline
+-- has come nor a wait of it can have lasted too long
 abbrev pub NobodyGivesUpEarly : Type 0
 NobodyGivesUpEarly =
     (plan : Plan) (turns : ℕ) → IsRunnable plan
@@ -112,6 +116,7 @@ made_step resources (told.DownsAlready at) = Some (Down at)
 made_step resources (told.ArrivesLast at round) = Some (Arrive at)
 made_step resources (told.Waits at round number) = None
 made_step resources (told.GaveUp at round number) = None
+made_step resources (told.Retries at round number) = None
 made_step resources (told.Late at round number) = None
 made_step resources told.Done = None
 

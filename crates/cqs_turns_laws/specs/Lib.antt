@@ -3,3 +3,4 @@ pub mod Events
 pub mod Stories
 pub mod Endings
 pub mod Balances
+pub mod Versions

@@ -1,5 +1,5 @@
 -- What each job tells: its own lines, one after the other, are a story of its steps.
-use Rattle.std.specs.Prelude.{◌≡◌, ◌⊎◌, ℕ, zero, suc, ◌+◌, ◌<◌, ◌≤◌, ◌==◌, true, List, [], ◌∷◌, ◌++◌, Option, Some, length, filter, slice_get}
+use Rattle.std.specs.Prelude.{◌≡◌, ◌⊎◌, ℕ, zero, suc, ◌+◌, ◌<◌, ◌≤◌, ◌==◌, Bool, true, false, List, [], ◌∷◌, ◌++◌, Some, length, count_by, filter, slice_get}
 use Rattle.cqs_plan.specs.declared.plans.job.Job.{Job}
 use Rattle.cqs_plan.specs.declared.plans.plan.Plan.{Plan}
 use Rattle.cqs_plan.specs.declared.plans.step.Step.{Step}
@@ -32,6 +32,41 @@ abbrev pub lasts : ℕ → ℕ
 lasts zero = 1
 lasts (suc n) = suc n
 
+-- it tells of a retry
+abbrev pub is_retry : Told → Bool
+is_retry (told.Retries at round number) = true
+is_retry (told.Takes at element) = false
+is_retry (told.Waits at round number) = false
+is_retry (told.Served at round number element) = false
+is_retry (told.GivesFree at element) = false
+is_retry (told.GivesSent at element number) = false
+is_retry (told.GaveUp at round number) = false
+is_retry (told.Late at round number) = false
+is_retry (told.Passes at) = false
+is_retry (told.DownsLeft at left) = false
+is_retry (told.DownsOpen at) = false
+is_retry (told.DownsAlready at) = false
+is_retry (told.ArrivesLast at round) = false
+is_retry told.Done = false
+
+-- of how many retries these lines tell
+abbrev pub retries_in : List Line → ℕ
+retries_in lines = count_by (λ line. is_retry line.told) lines
+
+-- the deadline of the job has come in this turn
+abbrev pub IsDue : Job → ℕ → Type 0
+IsDue job turn = (deadline : ℕ) × (job.deadline ≡ Some deadline) × (deadline ≤ turn)
+
+-- a wait of the job that began in the one turn has lasted as long as it may in the other
+abbrev pub IsOutwaited : Job → ℕ → ℕ → Type 0
+IsOutwaited job since turn =
+    (within : ℕ) × (job.within ≡ Some within) × (since + within ≤ turn)
+
+-- neither is so
+pub record IsInTime (job : Job) (since turn : ℕ) : Type 0 where
+  pub deadline : (d : ℕ) → job.deadline ≡ Some d → turn < d
+  pub within : (w : ℕ) → job.within ≡ Some w → turn < since + w
+
 -- where a job is in its story, and of which resources it holds something, oldest first
 pub data Stage : Type 0 where
   -- it has made the steps before this one, and goes on in this turn
@@ -63,25 +98,35 @@ pub data Story (job : Job) : List Line → Stage → Type 0 where
       → line.told ≡ told.Waits at round number → line.turn ≡ from
       → Story job lines (AtStep next from held)
       → Story job (lines ++ line ∷ []) (InWait next at round number line.turn held)
-  -- in a later turn, before its deadline, its wait is served: now it has made the step
+  -- in a later turn its wait is served in time: now it has made the step
   is_served : (lines : List Line) (next at round number since element : ℕ) (held : List ℕ)
       (step : Step) (line : Line) → slice_get job.steps next ≡ Some step
       → line.told ≡ told.Served at round number element → since < line.turn
-      → ((deadline : ℕ) → job.deadline ≡ Some deadline → line.turn < deadline)
+      → IsInTime job since line.turn
       → Story job lines (InWait next at round number since held)
       → Story job (lines ++ line ∷ []) (AtStep (next + 1) line.turn (held_next held step))
-  -- in a later turn it gives up: it has a deadline, which has come
-  gives_up : (lines : List Line) (next at round number since deadline : ℕ) (held : List ℕ)
+  -- in a later turn, before its deadline, its wait has lasted too long, and it has a retry left:
+  -- it comes to the step again
+  tries_again : (lines : List Line) (next at round number since : ℕ) (held : List ℕ)
+      (line : Line) → line.told ≡ told.Retries at round number → since < line.turn
+      → IsOutwaited job since line.turn
+      → ((deadline : ℕ) → job.deadline ≡ Some deadline → line.turn < deadline)
+      → retries_in lines < job.retry
+      → Story job lines (InWait next at round number since held)
+      → Story job (lines ++ line ∷ []) (AtStep next line.turn held)
+  -- in a later turn it gives up: its deadline has come, or its wait has lasted too long and it has
+  -- no retry left
+  gives_up : (lines : List Line) (next at round number since : ℕ) (held : List ℕ)
       (line : Line) → line.told ≡ told.GaveUp at round number → since < line.turn
-      → job.deadline ≡ Some deadline → deadline ≤ line.turn
+      → IsDue job line.turn ⊎ (IsOutwaited job since line.turn × (job.retry ≤ retries_in lines))
       → Story job lines (InWait next at round number since held)
       → Story job (lines ++ line ∷ []) (Closing GaveUp line.turn held)
-  -- It is late: it has a deadline, which has come before it saw that it was served; and it holds
-  -- what came.
-  is_late : (lines : List Line) (next at round number since deadline : ℕ) (held : List ℕ)
+  -- It is late: its deadline came, or its wait lasted too long, before it saw that it was served;
+  -- and it holds what came.
+  is_late : (lines : List Line) (next at round number since : ℕ) (held : List ℕ)
       (step : Step) (line : Line) → slice_get job.steps next ≡ Some step
       → line.told ≡ told.Late at round number → since < line.turn
-      → job.deadline ≡ Some deadline → deadline ≤ line.turn
+      → IsDue job line.turn ⊎ IsOutwaited job since line.turn
       → Story job lines (InWait next at round number since held)
       → Story job (lines ++ line ∷ []) (Closing Late line.turn (held_next held step))
   -- all its steps are made
@@ -98,28 +143,35 @@ pub data Story (job : Job) : List Line → Stage → Type 0 where
   has_left : (lines : List Line) (end : End) (turn : ℕ) → (end ≡ GaveUp) ⊎ (end ≡ Late)
       → Story job lines (Closing end turn []) → Story job lines (Over end)
 
+-- a job that waits since a turn, when so many turns are over: its deadline hasn't come, and the
+-- wait hasn't lasted longer than it may, or it began to wait in the last turn
+pub record MayWaitOn (turns : ℕ) (job : Job) (since : ℕ) : Type 0 where
+  pub deadline : (d : ℕ) → job.deadline ≡ Some d → (turns ≤ d) ⊎ (turns ≤ since + 1)
+  pub within : (w : ℕ) → job.within ≡ Some w → (turns ≤ since + w) ⊎ (turns ≤ since + 1)
+
 -- What a job does at this stage that hasn't ended when so many turns are over: it works, until now
--- or longer; or it waits, and its deadline hasn't come, or it began to wait in the last turn.
-abbrev pub GoesOn : ℕ → Option ℕ → Stage → Type 0
-GoesOn turns deadline (AtStep next from held) = turns ≤ from
-GoesOn turns deadline (InWait next at round number since held) =
-    (d : ℕ) → deadline ≡ Some d → (turns ≤ d) ⊎ (turns ≤ since + 1)
-GoesOn turns deadline (Closing end turn held) = ⊥
-GoesOn turns deadline (Over end) = ⊥
+-- or longer; or it waits.
+abbrev pub GoesOn : ℕ → Job → Stage → Type 0
+GoesOn turns job (AtStep next from held) = turns ≤ from
+GoesOn turns job (InWait next at round number since held) = MayWaitOn turns job since
+GoesOn turns job (Closing end turn held) = ⊥
+GoesOn turns job (Over end) = ⊥
 
 -- the totals count a job as its story ends
-abbrev pub CountsAs : ℕ → Option ℕ → Progress → Stage → Type 0
-CountsAs turns deadline (Ended end) stage = stage ≡ Over end
-CountsAs turns deadline (Stepping next) stage = GoesOn turns deadline stage
-CountsAs turns deadline (Working next until) stage = GoesOn turns deadline stage
-CountsAs turns deadline (Waiting next at round number) stage = GoesOn turns deadline stage
+abbrev pub CountsAs : ℕ → Job → Progress → Stage → Type 0
+CountsAs turns job (Ended end) stage = stage ≡ Over end
+CountsAs turns job (Stepping next) stage = GoesOn turns job stage
+CountsAs turns job (Working next until) stage = GoesOn turns job stage
+CountsAs turns job (Waiting next at round number) stage = GoesOn turns job stage
 
--- after so many turns these lines are a story of this job, which is counted as it ends
+-- after so many turns these lines are a story of this job, which is counted as it ends; and it has
+-- retried no more often than it may
 pub record HasStory (turns : ℕ) (job : Job) (progress : Progress) (lines : List Line)
     : Type 0 where
   pub stage : Stage
   pub story : Story job lines stage
-  pub counts : CountsAs turns job.deadline progress stage
+  pub counts : CountsAs turns job progress stage
+  pub few_retries : retries_in lines ≤ job.retry
 
 -- the lines of the job at a place
 abbrev pub own_lines : ℕ → List Line → List Line

@@ -8,6 +8,7 @@ ghost use Rattle.cqs_turns_laws.specs.Balances.{EveryResourceBalances, EveryRoun
 ghost use Rattle.cqs_turns_laws.specs.Totals.{TotalsAddUp};
 ghost use Rattle.cqs_turns_laws.specs.Events.{EveryReportHasItsLines};
 ghost use Rattle.cqs_turns_laws.specs.Stories.{EveryJobHasItsStory};
+ghost use Rattle.cqs_turns_laws.specs.Versions.{VersionOneKeepsItsReports};
 ghost use Rattle.cqs_turns_laws.specs.Endings.{EndedJobsHaveNothing, NoWaitOutlivesItsDeadline, NoWaitOutlivesItsService, NobodyGivesUpEarly, WhoIsDoneMadeAllSteps};
 
 /// The four totals of a report add up to the number of the plan's jobs.
@@ -57,19 +58,27 @@ pub fn every_round_balances()
 /// The lines are in order of turns and jobs, and those of each job are a story of its steps. Each
 /// step but `work` is told once, in order: in the turn of the job's line before it, or as many
 /// turns later as it works between them. A step that must wait is told by the line that it waits,
-/// and in a later turn, before the deadline, by the one that it is served. A job gives up, or is
-/// late, only at a deadline of its own that has come. At its end it gives back all that came to
-/// it, and only who has made all steps is done. The totals count a job as its story ends; and one
-/// that is unfinished still works, or waits, and its deadline hasn't come or it began to wait in
-/// the last turn.
+/// and in a later turn, in time, by the one that it is served. A job tries again only before its
+/// deadline, where a wait has lasted as long as it may, and no more often than it has retries. It
+/// gives up, or is late, only where its deadline has come or a wait has lasted as long as it may,
+/// and gives up only where it can't try again. At its end it gives back all that came to it, and
+/// only who has made all steps is done. The totals count a job as its story ends; and one that is
+/// unfinished still works, or waits: its deadline hasn't come and the wait hasn't lasted longer
+/// than it may, or it began to wait in the last turn.
 pub fn every_job_has_its_story()
     ensures { EveryJobHasItsStory }
 {}
 
-/// The lines of a report tell of no job that it gave up, or was late, where it has no deadline, or
-/// before that has come.
+/// The lines of a report tell of no job that it gave up, or was late, where neither its deadline
+/// has come nor as many turns have passed as its waits may last.
 pub fn nobody_gives_up_early()
     ensures { NobodyGivesUpEarly }
+{}
+
+/// A plan whose jobs have neither `within` nor a retry, as those of version 1 do, has the report
+/// that the turn machine of version 1 gives it.
+pub fn version_one_keeps_its_reports()
+    ensures { VersionOneKeepsItsReports }
 {}
 
 /// A job that is counted as done has made all its steps: the last of its lines says that it is

@@ -14,7 +14,7 @@ use Rattle.cqs_plan.specs.FloorHistory.{with_deed_in, Deed, joins, completes}
 use Rattle.cqs_plan.specs.FloorCalls.{after_arrive, arrive_answer, with_arrival}
 use Rattle.cqs_turns_report.specs.Ready.{HasRoom}
 use Rattle.cqs_turns_report.specs.Running.{count_arrived}
-use Rattle.cqs_turns_report.proofs.ToCome.{CostsOne, done-history, joins-costs, completes-costs}
+use Rattle.cqs_turns_report.proofs.ToCome.{CostsOne, done-history, joins-costs, completes-costs, rounds-done}
 use Rattle.cqs_turns_report.proofs.Moved.{Moves, arrivals-cons, may-arrive, moves-on, moves-wait, room-falls, room-some}
 
 -- the row of a job that arrived
@@ -47,7 +47,7 @@ arrived-else f place at q job other =
     ∙ get_or-set_other (own_rounds f place) at q (round_of f place at + 1) 0 other
 
 -- how many rows are past a round, after one is written
-rows-set : (rows : List (List ℕ)) (place at r : ℕ) (row : List ℕ) → place < length rows
+pub rows-set : (rows : List (List ℕ)) (place at r : ℕ) (row : List ℕ) → place < length rows
     → count_by (λ x. nat_lt r (get_or x at 0)) (set rows place row)
     + cond (nat_lt r (get_or (get_or rows place []) at 0)) 1 0
     ≡ count_by (λ x. nat_lt r (get_or x at 0)) rows + cond (nat_lt r (get_or row at 0)) 1 0
@@ -171,6 +171,7 @@ module _ (place : ℕ) (f : PlainFloor) (at : ℕ) (deed : Deed) (steps : List S
     arrives = λ q. arrival-arrives q (cases_eq q at);
     to_come = λ q r parties rounds is low. arrival-to_come q r low;
     parties = λ all. record {
+      there = λ q parties rounds is. rounds-done less at r0 deed q rounds (all.there q parties rounds is);
       all = λ q r parties rounds is. arrival-parties q r parties (cases_eq q at) (all.all q r parties rounds is);
     };
   }

@@ -8,21 +8,23 @@ use Rattle.cqs_plan.specs.declared.plans.step.Step.TheVariants.{Take, Give, Down
 use Rattle.cqs_plan.specs.declared.floors.answers.FloorTake.{FloorTake}
 use Rattle.cqs_plan.specs.declared.floors.answers.FloorTake.TheVariants.{Now, Waits}
 use Rattle.cqs_plan.specs.declared.floors.answers.FloorLeave.{FloorLeave}
+use Rattle.cqs_plan.specs.declared.floors.answers.FloorLeave.TheVariants as leave
 use Rattle.cqs_plan.specs.declared.floors.answers.FloorLook.{FloorLook}
 use Rattle.cqs_plan.specs.declared.floors.answers.FloorLook.TheVariants.{Pending, Granted}
 use Rattle.cqs_plan.specs.declared.plans.resource.Resource.{Resource}
 use Rattle.cqs_plan.specs.declared.plans.job.Job.{Job}
 use Rattle.cqs_plan.specs.declared.plans.plan.Plan.{Plan}
 use Rattle.cqs_plan.specs.Floor.{PlainFloor, round_of}
-use Rattle.cqs_plan.specs.FloorCalls.{take_answer, wait_answer, arrive_answer, look_answer, leave_answer, after_look}
+use Rattle.cqs_plan.specs.FloorCalls.{take_answer, wait_answer, arrive_answer, look_answer, leave_answer, after_look, after_leave}
 use Rattle.cqs_turns_report.specs.declared.lines.Told.{Told}
 use Rattle.cqs_turns_report.specs.declared.lines.Told.TheVariants as told
 use Rattle.cqs_turns_report.specs.declared.states.End.TheVariants as end
+use Rattle.cqs_turns_report.specs.declared.states.Patience.{Patience}
 use Rattle.cqs_turns_report.specs.declared.states.Progress.{Progress}
 use Rattle.cqs_turns_report.specs.declared.states.Progress.TheVariants.{Stepping, Working, Waiting, Ended}
 use Rattle.cqs_turns_report.specs.Coming.{ComesTo, LeavesAt}
 use Rattle.cqs_core.specs.Parts.{IsPrefix}
-use Rattle.cqs_turns_report.specs.Turns.{Role, Scene, Acted, Made, event, on_give, after_gives, after_all_gives, after_last_step, after_step, after_coming, on_take, on_wait, on_arrive, stop_or, after_steps, go_on, on_leave, after_giving_up, after_looking, after_acting, left_at, is_due, one_job, each_job, one_turn, machine_after, Machine, places_held}
+use Rattle.cqs_turns_report.specs.Turns.{Role, Scene, Acted, Made, event, on_give, after_gives, after_all_gives, after_last_step, after_step, after_coming, on_take, on_wait, on_arrive, stop_or, after_steps, go_on, on_leave, after_giving_up, after_looking, after_retrying, after_waiting_long, after_acting, left_at, is_over_time, retries, fresh, one_job, each_job, one_turn, machine_after, Machine, places_held}
 
 -- a clause on an error, from its fact
 pub on-err : {T E P : Type 0} (r : Result T E) → P → OnErr r P
@@ -125,23 +127,34 @@ after_looking-grows r next at round number Pending s = prefix-same s.text
 after_looking-grows r next at round number (Granted element) s =
     go_on-grows r next s (after_look s.floor r.place (Granted element)) (told.Served at round number element)
 
-pub after_acting-grows : (r : Role) (p : Progress) (s : Scene) → IsPrefix s.text (after_acting r p s).scene.text
-after_acting-grows r (Stepping next) s = after_steps-grows r (drop next r.job.steps) next s
-after_acting-grows r (Working next until) s =
+pub after_waiting_long-grows : (r : Role) (patience : Patience) (next at round number : ℕ) (answer : FloorLeave)
+    (s : Scene)
+    → IsPrefix s.text (after_waiting_long r patience next at round number answer s).scene.text
+after_waiting_long-grows r patience next at round number answer s =
+    after_acting-if (retries r patience answer) (after_retrying r next at round number s)
+    (after_giving_up r at round number answer s) s.text
+    (go_on-grows r (next - 1) s (after_leave s.floor r.place leave.Gone) (told.Retries at round number))
+    (after_giving_up-grows r at round number answer s)
+
+pub after_acting-grows : (r : Role) (patience : Patience) (p : Progress) (s : Scene)
+    → IsPrefix s.text (after_acting r patience p s).scene.text
+after_acting-grows r patience (Stepping next) s = after_steps-grows r (drop next r.job.steps) next s
+after_acting-grows r patience (Working next until) s =
     after_acting-if (nat_lt r.turn until) (left_at s (Working next until)) (go_on r next s) s.text
     (prefix-same s.text) (after_steps-grows r (drop next r.job.steps) next s)
-after_acting-grows r (Waiting next at round number) s =
-    after_acting-if (is_due r.job.deadline r.turn)
-    (after_giving_up r at round number (leave_answer s.floor r.place) s)
+after_acting-grows r patience (Waiting next at round number) s =
+    after_acting-if (is_over_time r patience)
+    (after_waiting_long r patience next at round number (leave_answer s.floor r.place) s)
     (after_looking r next at round number (look_answer s.floor r.place) s) s.text
-    (after_giving_up-grows r at round number (leave_answer s.floor r.place) s)
+    (after_waiting_long-grows r patience next at round number (leave_answer s.floor r.place) s)
     (after_looking-grows r next at round number (look_answer s.floor r.place) s)
-after_acting-grows r (Ended end) s = prefix-same s.text
+after_acting-grows r patience (Ended end) s = prefix-same s.text
 
 one_job-grows : (resources : List Resource) (turn place : ℕ) (job : Job) (m : Machine)
     → IsPrefix m.scene.text (one_job resources turn place job m).scene.text
 one_job-grows resources turn place job m
-    = after_acting-grows _ (slice_index_or m.progress place (Ended end.Done)) m.scene
+    = after_acting-grows _ (slice_index_or m.patience place fresh) (slice_index_or m.progress place (Ended end.Done))
+    m.scene
 
 pub each_job-grows : (resources : List Resource) (turn place : ℕ) (jobs : List Job) (m : Machine)
     → IsPrefix m.scene.text (each_job resources turn place jobs m).scene.text

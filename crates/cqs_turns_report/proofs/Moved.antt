@@ -15,15 +15,14 @@ use Rattle.cqs_plan.specs.declared.floors.answers.FloorGive.TheVariants.{Free, S
 use Rattle.cqs_plan.specs.declared.floors.answers.FloorDown.{FloorDown}
 use Rattle.cqs_plan.specs.declared.floors.answers.FloorDown.TheVariants.{Left, Last, Already}
 use Rattle.cqs_plan.specs.declared.floors.answers.FloorLook.TheVariants.{Granted}
-use Rattle.cqs_plan.specs.declared.floors.answers.FloorLeave.{FloorLeave}
-use Rattle.cqs_plan.specs.declared.floors.answers.FloorLeave.TheVariants.{Gone, Late}
+use Rattle.cqs_plan.specs.declared.floors.answers.FloorLeave.TheVariants.{Late}
 use Rattle.cqs_plan.specs.PlanSteps.{is_arrival, may_wait}
 use Rattle.cqs_plan.specs.Floor.{PlainFloor, JobWait, Holding, IsHoldable, IsLatch, wait_of, holds_of, own_rounds, round_of, room_at, to_come_at, is_holdable, with_done_in, with_less_room, with_wait, with_newest, with_came, without_oldest}
-use Rattle.cqs_plan.specs.FloorHistory.{Deed, takes, joins, frees, sends, gets, leaves, is_late, passes, counts, opens, is_open}
-use Rattle.cqs_plan.specs.FloorCalls.{after_take, after_give, after_look, after_leave, after_down, after_wait, with_granted, with_left}
+use Rattle.cqs_plan.specs.FloorHistory.{Deed, takes, joins, frees, sends, gets, is_late, passes, counts, opens, is_open}
+use Rattle.cqs_plan.specs.FloorCalls.{after_take, after_give, after_look, after_leave, after_down, after_wait, with_granted}
 use Rattle.cqs_turns_report.specs.Ready.{HasRoom}
 use Rattle.cqs_turns_report.specs.Running.{HasParties}
-use Rattle.cqs_turns_report.proofs.ToCome.{IsNoBarrier, KeepsBarriers, keeps-barriers, keeps-elsewhere, keeps-takes, keeps-frees, keeps-sends, keeps-gets, keeps-late, keeps-leaves}
+use Rattle.cqs_turns_report.proofs.ToCome.{IsNoBarrier, KeepsBarriers, keeps-barriers, keeps-elsewhere, keeps-takes, keeps-frees, keeps-sends, keeps-gets, keeps-late, rounds-done}
 
 -- The job at `place`, which had `steps` to make on the floor f, has `left` to make on the floor g. The other jobs wait,
 -- hold and arrive as before, and the room falls no more than the steps that may wait. To the rounds of barriers to
@@ -43,6 +42,42 @@ pub record Moves (place : ℕ) (f : PlainFloor) (steps : List Step) (g : PlainFl
   pub to_come : (at round parties rounds : ℕ) → slice_get f.kinds at ≡ Some (Rounds parties rounds)
       → round_of g place at ≤ round → to_come_at f at round ≤ to_come_at g at round
   pub parties : HasParties f → HasParties g
+
+-- what one job does leaves to the others their waits, what they hold and their rounds
+pub record Others (place : ℕ) (f g : PlainFloor) : Type 0 where
+  pub kinds : g.kinds ≡ f.kinds
+  pub all_waits : length g.waits ≡ length f.waits
+  pub all_holds : length g.holds ≡ length f.holds
+  pub all_rounds : length g.rounds ≡ length f.rounds
+  pub waits : (j : ℕ) → j ≢ place → wait_of g j ≡ wait_of f j
+  pub holds : (j : ℕ) → j ≢ place → holds_of g j ≡ holds_of f j
+  pub rounds : (j : ℕ) → j ≢ place → own_rounds g j ≡ own_rounds f j
+  pub parties : HasParties f → HasParties g
+
+pub others-of : (place : ℕ) (f : PlainFloor) (steps : List Step) (g : PlainFloor) (left : List Step)
+    → Moves place f steps g left → Others place f g
+others-of place f steps g left moves = record {
+  kinds = moves.kinds;
+  all_waits = moves.all_waits;
+  all_holds = moves.all_holds;
+  all_rounds = moves.all_rounds;
+  waits = moves.waits;
+  holds = moves.holds;
+  rounds = moves.rounds;
+  parties = moves.parties;
+}
+
+pub others-on : (place : ℕ) (f g h : PlainFloor) → Others place f g → Others place g h → Others place f h
+others-on place f g h first second = record {
+  kinds = second.kinds ∙ first.kinds;
+  all_waits = second.all_waits ∙ first.all_waits;
+  all_holds = second.all_holds ∙ first.all_holds;
+  all_rounds = second.all_rounds ∙ first.all_rounds;
+  waits = λ j other. second.waits j other ∙ first.waits j other;
+  holds = λ j other. second.holds j other ∙ first.holds j other;
+  rounds = λ j other. second.rounds j other ∙ first.rounds j other;
+  parties = λ all. second.parties (first.parties all);
+}
 
 -- steps that aren't made
 pub moves-fewer : (place : ℕ) (f : PlainFloor) (steps left : List Step)
@@ -104,7 +139,7 @@ moves-wait place f w steps = record {
   later = λ at. omega arith;
   arrives = λ at. omega arith;
   to_come = λ at round parties rounds is low. omega arith;
-  parties = λ all. record { all = all.all };
+  parties = λ all. record { there = all.there; all = all.all };
 }
 
 moves-holds : (place : ℕ) (f : PlainFloor) (hs : List Holding) (steps : List Step)
@@ -121,7 +156,7 @@ moves-holds place f hs steps = record {
   later = λ at. omega arith;
   arrives = λ at. omega arith;
   to_come = λ at round parties rounds is low. omega arith;
-  parties = λ all. record { all = all.all };
+  parties = λ all. record { there = all.there; all = all.all };
 }
 
 pub waits-cons : (at : ℕ) (step : Step) (steps : List Step)
@@ -205,7 +240,7 @@ moves-room place f at step steps some may = record {
   later = λ q. omega arith;
   arrives = λ q. omega (arith, arrivals-cons q step steps);
   to_come = λ q round parties rounds is low. omega arith;
-  parties = λ all. record { all = all.all };
+  parties = λ all. record { there = all.there; all = all.all };
 }
 
 moves-done : (place : ℕ) (f : PlainFloor) (at round : ℕ) (deed : Deed) (steps : List Step)
@@ -223,6 +258,7 @@ moves-done place f at round deed steps keeps = record {
   arrives = λ q. omega arith;
   to_come = λ q r parties rounds is low. keeps q r parties rounds is;
   parties = λ all. record {
+    there = λ q parties rounds is. rounds-done f at round deed q rounds (all.there q parties rounds is);
     all = λ q r parties rounds is. omega (arith, all.all q r parties rounds is, keeps q r parties rounds is);
   };
 }
@@ -330,22 +366,28 @@ after_looking-moves place f element steps =
     granted-moves place f gets (wait_of f place) element steps
     (λ w. keeps-barriers f w.at w.round (gets w.number element) (keeps-gets w.number element))
 
-left-moves : (place : ℕ) (f : PlainFloor) (wait : Option JobWait) (steps : List Step)
-    → Moves place f steps (with_left f place wait) steps
-left-moves place f None steps = moves-none place f steps
-left-moves place f (Some wait) steps =
-    let told : PlainFloor = with_done_in f wait.at wait.round (leaves wait.number) in
-    moves-on place f steps told steps _ steps
-    (moves-done place f wait.at wait.round (leaves wait.number) steps
-    (keeps-barriers f wait.at wait.round (leaves wait.number) (keeps-leaves wait.number)))
-    (moves-wait place told None steps)
-
-pub leave-moves : (place : ℕ) (f : PlainFloor) (answer : FloorLeave) (steps : List Step)
-    → Moves place f steps (after_leave f place answer) steps
-leave-moves place f Gone steps = left-moves place f (wait_of f place) steps
-leave-moves place f (Late element) steps =
+pub late-moves : (place : ℕ) (f : PlainFloor) (element : ℕ) (steps : List Step)
+    → Moves place f steps (after_leave f place (Late element)) steps
+late-moves place f element steps =
     granted-moves place f is_late (wait_of f place) element steps
     (λ w. keeps-barriers f w.at w.round (is_late w.number element) (keeps-late w.number element))
+
+-- and leaves the room as it was
+pub late-room : (place : ℕ) (f : PlainFloor) (element at : ℕ)
+    → room_at (after_leave f place (Late element)) at ≡ room_at f at
+late-room place f element at = go (wait_of f place)
+  where
+    came : (g : PlainFloor) (q : ℕ) (b : Bool)
+        → room_at (if b then with_newest g place q element else g) at ≡ room_at g at
+    came g q true = refl
+    came g q false = refl
+
+    go : (wait : Option JobWait) → room_at (with_granted f place is_late wait element) at ≡ room_at f at
+    go None = refl
+    go (Some wait) =
+        let over : PlainFloor
+        = with_wait (with_done_in f wait.at wait.round (is_late wait.number element)) place None in
+        came over wait.at (is_holdable over wait.at)
 
 -- a floor with room has room for what is left, where the job is in the rounds that what it has made then says
 pub room-after : (place : ℕ) (f : PlainFloor) (steps : List Step) (g : PlainFloor) (left made then_made : List Step)

@@ -1,5 +1,5 @@
 -- The plain floor turns no take away, so no job of a run ends as crowded.
-use Rattle.std.proofs.Common.{◌≡◌, ℕ, zero, suc, ◌+◌, List, [], ◌∷◌, Bool, true, false, nat_lt, cond, length, drop, replicate, slice_index_or, count_by, set, refl, ap, arith}
+use Rattle.std.proofs.Common.{◌≡◌, ℕ, zero, suc, ◌+◌, ◌-◌, List, [], ◌∷◌, Bool, true, false, nat_lt, cond, length, drop, replicate, slice_index_or, count_by, set, refl, ap, arith}
 use Rattle.std.specs.Bool.{if◌then◌else◌}
 use Rattle.std.proofs.lemmas.List.Sums.{sum_by-cons}
 use Rattle.cqs_plan.specs.declared.plans.job.Job.{Job}
@@ -16,10 +16,11 @@ use Rattle.cqs_plan.specs.declared.floors.answers.FloorLeave.TheVariants as leav
 use Rattle.cqs_plan.specs.FloorCalls.{take_answer, wait_answer, arrive_answer, look_answer, leave_answer}
 use Rattle.cqs_plan.specs.Floor.{round_of}
 use Rattle.cqs_turns_report.specs.declared.states.End.TheVariants as end
+use Rattle.cqs_turns_report.specs.declared.states.Patience.{Patience}
 use Rattle.cqs_turns_report.specs.declared.states.Progress.{Progress}
 use Rattle.cqs_turns_report.specs.declared.states.Progress.TheVariants.{Stepping, Working, Waiting, Ended}
 use Rattle.cqs_turns_report.specs.Lines.{is_crowded}
-use Rattle.cqs_turns_report.specs.Turns.{Role, Scene, Acted, Machine, after_step, after_coming, on_take, on_wait, on_arrive, stop_or, after_steps, go_on, left_at, after_giving_up, after_looking, after_acting, is_due, one_job, each_job, machine_after}
+use Rattle.cqs_turns_report.specs.Turns.{Role, Scene, Acted, Machine, after_step, after_coming, on_take, on_wait, on_arrive, stop_or, after_steps, go_on, left_at, on_retry, after_giving_up, after_looking, after_retrying, after_waiting_long, after_acting, is_over_time, retries, fresh, one_job, each_job, machine_after}
 
 -- a step that may wait is answered
 coming-stays : (r : Role) (next at round : ℕ) (on : FloorTake → Scene → Scene) (answer : FloorTake) (steps : List Step)
@@ -64,18 +65,22 @@ if-stays true a c here there = here
 if-stays false a c here there = there
 
 -- a job that isn't crowded isn't after its turn
-after_acting-stays : (r : Role) (p : Progress) (s : Scene) → is_crowded p ≡ false
-    → is_crowded (after_acting r p s).progress ≡ false
-after_acting-stays r (Stepping next) s not = after_steps-stays r (drop next r.job.steps) next s
-after_acting-stays r (Working next until) s not =
+after_acting-stays : (r : Role) (patience : Patience) (p : Progress) (s : Scene) → is_crowded p ≡ false
+    → is_crowded (after_acting r patience p s).progress ≡ false
+after_acting-stays r patience (Stepping next) s not = after_steps-stays r (drop next r.job.steps) next s
+after_acting-stays r patience (Working next until) s not =
     if-stays (nat_lt r.turn until) (left_at s (Working next until)) (go_on r next s) refl
     (after_steps-stays r (drop next r.job.steps) next s)
-after_acting-stays r (Waiting next at round number) s not =
-    if-stays (is_due r.job.deadline r.turn) (after_giving_up r at round number (leave_answer s.floor r.place) s)
+after_acting-stays r patience (Waiting next at round number) s not =
+    if-stays (is_over_time r patience)
+    (after_waiting_long r patience next at round number (leave_answer s.floor r.place) s)
     (after_looking r next at round number (look_answer s.floor r.place) s)
-    (after_giving_up-stays r at round number (leave_answer s.floor r.place) s)
+    (if-stays (retries r patience (leave_answer s.floor r.place)) (after_retrying r next at round number s)
+    (after_giving_up r at round number (leave_answer s.floor r.place) s)
+    (after_steps-stays r (drop (next - 1) r.job.steps) (next - 1) (on_retry r at round number s))
+    (after_giving_up-stays r at round number (leave_answer s.floor r.place) s))
     (after_looking-stays r next at round number (look_answer s.floor r.place) s)
-after_acting-stays r (Ended end) s not = not
+after_acting-stays r patience (Ended end) s not = not
 
 -- how many of them are crowded
 abbrev crowded : List Progress → ℕ
@@ -121,10 +126,11 @@ each_job-stays : (resources : List Resource) (turn place : ℕ) (jobs : List Job
 each_job-stays resources turn place [] m none = none
 each_job-stays resources turn place (job ∷ jobs) m none =
     let r : Role = record { resources = resources; turn = turn; place = place; job = job } in
+    let x : Patience = slice_index_or m.patience place fresh in
     let p : Progress = slice_index_or m.progress place (Ended end.Done) in
     each_job-stays resources turn (place + 1) jobs (one_job resources turn place job m)
-    (none-set m.progress place (after_acting r p m.scene).progress none
-    (after_acting-stays r p m.scene (none-at m.progress place none)))
+    (none-set m.progress place (after_acting r x p m.scene).progress none
+    (after_acting-stays r x p m.scene (none-at m.progress place none)))
 
 none-opening : (n : ℕ) → crowded (replicate n (Stepping 0)) ≡ 0
 none-opening zero = refl

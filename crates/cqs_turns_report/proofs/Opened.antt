@@ -1,9 +1,12 @@
 -- A plan that can be run: its opening machine runs.
-use Rattle.std.proofs.Common.{◌≡◌, ◌≢◌, ◌⊎◌, inl, inr, ℕ, zero, suc, ◌+◌, ◌<◌, ◌≤◌, List, [], ◌∷◌, ◌++◌, Bool, true, false, cond, ◌==◌, Option, Some, None, length, map, set, get_or, take, replicate, slice_get, count_by, sum_by, refl, sym, ap, ◌∙◌, subst, eq-eqb, ne_eqb, arith}
+use Rattle.std.proofs.Common.{◌≡◌, ◌≢◌, ◌⊎◌, inl, inr, ℕ, zero, suc, ◌+◌, ◌-◌, ◌<◌, ◌≤◌, List, [], ◌∷◌, ◌++◌, Bool, true, false, cond, ◌==◌, Option, Some, None, length, map, set, get_or, take, replicate, slice_get, count_by, sum_by, refl, sym, ap, ◌∙◌, subst, eq-eqb, ne_eqb, arith}
+use Rattle.std.specs.Bool.{if◌then◌else◌}
+use Rattle.std.specs.List.{list_any}
 use Rattle.std.proofs.lemmas.Bool.{cases_eq, cases_lt}
 use Rattle.std.proofs.lemmas.List.{append_assoc, take_at, length-replicate, length-map, length-set, get_or-replicate, get_or-set_same, get_or-set_other}
 use Rattle.std.proofs.lemmas.List.FromFn.{get_or-map-range_with_len}
 use Rattle.std.proofs.lemmas.List.Sums.{sum_by-cons, sum_by_push}
+use Rattle.cqs_barrier_object.specs.declared.entries.BarrierEntry.{BarrierEntry}
 use Rattle.cqs_core.specs.Numbered.{EachAt}
 use Rattle.cqs_core.specs.Keyed.{without}
 use Rattle.cqs_core.proofs.Places.{get-below}
@@ -17,14 +20,14 @@ use Rattle.cqs_plan.specs.declared.plans.resource.Resource.{Resource}
 use Rattle.cqs_plan.specs.FloorHistory.{of_permits, of_rounds, barrier_after, entries_in, no_history, to_come}
 use Rattle.cqs_plan.specs.PlanSteps.{is_take, is_give, is_arrival, may_wait}
 use Rattle.cqs_plan.specs.Holding.{TookMore}
-use Rattle.cqs_plan.specs.Floor.{PlainFloor, JobWait, Holding, IsHoldable, IsLatch, HasRound, history_at, opening_floor, own_rounds, room_for, room_at, size_at, size_of, to_come_at}
+use Rattle.cqs_plan.specs.Floor.{PlainFloor, JobWait, Holding, IsHoldable, IsLatch, HasRound, history_at, opening_floor, own_rounds, room_for, room_at, size_at, size_of, times_at, to_come_at, waits_of_job}
 use Rattle.cqs_plan.specs.Runnable.{IsRunnable, IsMakeable, AreMakeable, kinds_of, round_after}
 use Rattle.cqs_turns_report.specs.declared.states.Progress.{Progress}
 use Rattle.cqs_turns_report.specs.declared.states.Progress.TheVariants.{Stepping}
-use Rattle.cqs_turns_report.specs.Ready.{CanMake, is_held, IsReady, wait_in, steps_left}
-use Rattle.cqs_turns_report.specs.Running.{HasParties, IsInRounds, IsRunning, count_arrived, waits_left}
+use Rattle.cqs_turns_report.specs.Ready.{CanMake, is_held, IsBackIn, IsReady, wait_in, steps_left}
+use Rattle.cqs_turns_report.specs.Running.{HasParties, HasRounds, IsInRounds, IsRunning, count_arrived, retries_left, waits_left}
 use Rattle.cqs_turns_report.proofs.ArrivalMoves.{has-place}
-use Rattle.cqs_turns_report.specs.Turns.{opening_machine, places_held}
+use Rattle.cqs_turns_report.specs.Turns.{fresh, opening_machine, places_held}
 
 -- 1 for what passes a test
 abbrev one : Bool → ℕ
@@ -297,25 +300,49 @@ waits-there kinds held rounds (Arrive p ∷ steps) at past can =
       waits-there kinds held (set rounds p (get_or rounds p 0 + 1)) steps at past can.1,
     )
 
--- how many steps of all these jobs may have to wait at a resource
+-- how often all these jobs may begin to wait at a resource
 abbrev all_waits : ℕ → List Job → ℕ
-all_waits at jobs = sum_by (λ job. count_by (may_wait at) job.steps) jobs
+all_waits at jobs = sum_by (waits_of_job at) jobs
 
 waits-left_opening : (at : ℕ) (jobs : List Job)
-    → waits_left at jobs (replicate (length jobs) (Stepping 0)) ≡ all_waits at jobs
+    → waits_left at jobs (replicate (length jobs) (Stepping 0)) + retries_left at jobs (replicate (length jobs) fresh)
+    ≡ all_waits at jobs
 waits-left_opening at [] = refl
 waits-left_opening at (job ∷ jobs) =
-    omega (arith, sum_by-cons (λ j. count_by (may_wait at) j.steps) job jobs, waits-left_opening at jobs)
+    let none : fresh.used ≡ 0 = refl in
+    let all : job.retry - fresh.used ≡ job.retry = omega (arith, none) in
+    omega (
+      arith,
+      ap (times_at at job) all,
+      sum_by-cons (waits_of_job at) job jobs,
+      waits-left_opening at jobs,
+    )
+
+-- a job none of whose steps waits there does nothing so often
+none-any : (at : ℕ) (steps : List Step) → count_by (may_wait at) steps ≡ 0 → list_any (may_wait at) steps ≡ false
+none-any at [] none = refl
+none-any at (step ∷ steps) none = go (may_wait at step) refl (none-any at steps)
+  where
+    go : (b : Bool) → may_wait at step ≡ b
+        → (count_by (may_wait at) steps ≡ 0 → list_any (may_wait at) steps ≡ false)
+        → list_any (may_wait at) (step ∷ steps) ≡ false
+    go true is rest = absurd (omega (arith, none, count-cons (may_wait at) step steps, ap (λ b. one b) is))
+    go false is rest = rw is (rest (omega (arith, none, count-cons (may_wait at) step steps)))
 
 none-beyond : (kinds : List Kind) (at : ℕ) (jobs : List Job) → length kinds ≤ at
     → EachAt (λ place job. AreMakeable kinds job.steps) jobs → all_waits at jobs ≡ 0
 none-beyond kinds at [] past each = refl
 none-beyond kinds at (job ∷ jobs) past each =
+    let none : count_by (may_wait at) job.steps ≡ 0
+    = waits-there kinds [] (replicate (length kinds) 0) job.steps at past
+    (can-make kinds (replicate (length kinds) 0) job.steps (each.at 0 job refl) (no-rounds kinds)) in
+    let never : times_at at job job.retry ≡ 0
+    = ap (λ b. if b then job.retry else 0) (none-any at job.steps none) in
     omega (
       arith,
-      sum_by-cons (λ j. count_by (may_wait at) j.steps) job jobs,
-      waits-there kinds [] (replicate (length kinds) 0) job.steps at past
-          (can-make kinds (replicate (length kinds) 0) job.steps (each.at 0 job refl) (no-rounds kinds)),
+      sum_by-cons (waits_of_job at) job jobs,
+      none,
+      never,
       none-beyond kinds at jobs past (record { at = λ k x got. each.at (suc k) x got }),
     )
 
@@ -325,11 +352,13 @@ get-replicate (suc n) zero x y got = cc
 get-replicate (suc n) (suc i) x y got = get-replicate n i x y got
 
 opening-room : (plan : Plan) → IsRunnable plan → (at : ℕ)
-    → waits_left at plan.jobs (replicate (length plan.jobs) (Stepping 0)) ≤ room_at (opening_floor plan) at
+    → waits_left at plan.jobs (replicate (length plan.jobs) (Stepping 0))
+    + retries_left at plan.jobs (replicate (length plan.jobs) fresh) ≤ room_at (opening_floor plan) at
 opening-room plan runnable at = go (cases_lt at (length plan.resources))
   where
     go : (at < length plan.resources) ⊎ (length plan.resources ≤ at)
-        → waits_left at plan.jobs (replicate (length plan.jobs) (Stepping 0)) ≤ room_at (opening_floor plan) at
+        → waits_left at plan.jobs (replicate (length plan.jobs) (Stepping 0))
+        + retries_left at plan.jobs (replicate (length plan.jobs) fresh) ≤ room_at (opening_floor plan) at
     go (inl below) =
         let room : room_at (opening_floor plan) at ≡ room_for plan at
         = get_or-map-range_with_len (room_for plan) 0 (length plan.resources) at at 0 below (omega arith) in
@@ -386,8 +415,16 @@ no-entries (suc n) zero = refl
 no-entries (suc n) (suc round) = no-entries n round
 
 opening-parties : (plan : Plan) → HasParties (opening_floor plan)
-opening-parties plan = record { all = all }
+opening-parties plan = record { there = there; all = all }
   where
+    there : (at parties rounds : ℕ) → slice_get (kinds_of plan.resources) at ≡ Some (Rounds parties rounds)
+        → HasRounds rounds (history_at (opening_floor plan) at)
+    there at parties rounds is = record {
+      all = replicate rounds [];
+      is = opening-history plan.resources at parties rounds is;
+      many = omega (arith, length-replicate {A = List BarrierEntry} rounds []);
+    }
+
     all : (at round parties rounds : ℕ)
         → slice_get (kinds_of plan.resources) at ≡ Some (Rounds parties rounds)
         → parties ≤ to_come_at (opening_floor plan) at round + count_arrived (opening_floor plan) at round
@@ -415,6 +452,9 @@ opening-running plan runnable = record {
   kinds = refl;
   ready = λ place job p got_job got.
       opened place job p got_job (get-replicate (length plan.jobs) place (Stepping 0) p got);
+  back = λ place job p got_job got.
+      steps-back place job p (get-replicate (length plan.jobs) place (Stepping 0) p got);
+  patience = length-replicate (length plan.jobs) fresh;
   room = opening-room plan runnable;
   rows = length-replicate (length plan.jobs) (replicate (length plan.resources) 0);
   rounds = λ place job p got_job got.
@@ -425,6 +465,10 @@ opening-running plan runnable = record {
     opened : (place : ℕ) (job : Job) (p : Progress) → slice_get plan.jobs place ≡ Some job → p ≡ Stepping 0
         → IsReady (opening_floor plan) place (wait_in p) (steps_left job.steps p)
     opened place job p got same = rw same (opening-ready plan runnable place job got)
+
+    steps-back : (place : ℕ) (job : Job) (p : Progress) → p ≡ Stepping 0
+        → IsBackIn (opening_floor plan) place job.steps p
+    steps-back place job p same = rw same tt
 
     at-first : (rows row at : ℕ) (place : ℕ)
         → ◌≡◌ {A = ℕ} (get_or (get_or (replicate rows (replicate row 0)) place []) at 0) 0

@@ -1,5 +1,5 @@
 -- What keeps a job ready: after each call of the floor it can go on with the steps that are left.
-use Rattle.std.proofs.Common.{◌≡◌, ℕ, ◌+◌, length, List, [], ◌∷◌, ◌++◌, Bool, true, false, Option, Some, None, map, get_or, slice_get, refl, sym, ap, ◌∙◌, subst, arith}
+use Rattle.std.proofs.Common.{◌≡◌, ℕ, ◌+◌, ◌-◌, length, List, [], ◌∷◌, ◌++◌, Bool, true, false, Option, Some, None, map, get_or, slice_get, drop, refl, sym, ap, ◌∙◌, subst, arith}
 use Rattle.std.specs.Bool.{if◌then◌else◌}
 use Rattle.std.proofs.lemmas.List.{map-append, get_or-set_same, length-set}
 use Rattle.cqs_core.specs.Keyed.{without}
@@ -19,11 +19,12 @@ use Rattle.cqs_plan.specs.Floor.{PlainFloor, JobWait, Holding, IsJob, IsHoldable
 use Rattle.cqs_plan.specs.FloorHistory.{Deed, gets, is_late, joins, completes}
 use Rattle.cqs_plan.specs.FloorCalls.{after_take, after_give, after_look, after_leave, after_down, after_wait, after_arrive, with_arrival, with_granted, with_left}
 use Rattle.cqs_plan.specs.Runnable.{kinds_of}
-use Rattle.cqs_turns_report.specs.Ready.{IsReady, AreHoldable, CanMake, coming, is_holdable_in, rounds_next, with_place}
+use Rattle.cqs_turns_report.specs.Ready.{IsReady, IsBack, AreHoldable, CanMake, coming, is_holdable_in, row_back, rounds_next, with_place}
 use Rattle.cqs_turns_report.specs.Roles.{is_holdable_at, left_with}
 use Rattle.cqs_turns_report.specs.Turns.{places_held}
 use Rattle.cqs_turns_report.proofs.Held.{oldest-there, map-without, without-head}
 use Rattle.cqs_turns_report.proofs.ArrivalMoves.{arrived-own}
+use Rattle.cqs_turns_report.proofs.Leaving.{left-job, own-back}
 use Rattle.cqs_turns_report.proofs.HoldablePlaces.{held-kind, holdable-at, holdable-less, holdable-push, holdable-same, holdable-without, latch-kind, round-kind}
 
 -- a job that can give has what it gives
@@ -368,15 +369,23 @@ went-ready : (f : PlainFloor) (place : ℕ) (wait : JobWait) (steps : List Step)
     → IsReady f place (Some wait) steps → IsReady (with_left f place (Some wait)) place None []
 went-ready f place wait steps ready =
     let g : PlainFloor = with_left f place (Some wait) in
-    let job : IsJob g place = record {
-      waits = omega (arith, ready.job.waits, length-set f.waits place None);
-      holds = ready.job.holds;
-      rounds = ready.job.rounds;
-      each = ready.job.each;
-    } in
-    ready-at g place None [] (places_held f place) (own_rounds f place) job
+    ready-at g place None [] (places_held f place) (own_rounds g place) (left-job f place wait ready.job)
     (get_or-set_same f.waits place None None ready.job.waits) refl refl
     (holdable-less f.kinds (places_held f place) wait.at (is_holdable_in f.kinds wait.at) ready.holdable) tt
+
+-- a job whose wait is gone can make the step again at which it waited
+pub retry-ready : (f : PlainFloor) (place : ℕ) (wait : JobWait) (next : ℕ) (whole steps : List Step)
+    → IsReady f place (Some wait) steps → IsBack f place whole next wait
+    → IsReady (after_leave f place Gone) place None (drop (next - 1) whole)
+retry-ready f place wait next whole steps ready back =
+    let g : PlainFloor = with_left f place (Some wait) in
+    let Goes : Option JobWait → Type 0 = λ o. IsReady (with_left f place o) place None (drop (next - 1) whole) in
+    subst Goes (sym ready.waits)
+    (ready-at g place None (drop (next - 1) whole) (places_held f place)
+    (row_back f.kinds (own_rounds f place) wait) (left-job f place wait ready.job)
+    (get_or-set_same f.waits place None None ready.job.waits) refl (own-back f place wait ready.job)
+    (holdable-less f.kinds (places_held f place) wait.at (is_holdable_in f.kinds wait.at) ready.holdable)
+    back.makeable)
 
 -- a job that left the line, or was late, can give back all that it holds
 pub leave-ready : (f : PlainFloor) (place : ℕ) (wait : JobWait) (answer : FloorLeave) (steps : List Step)

@@ -1,6 +1,6 @@
 -- The machine keeps running: the turn of one job leaves every job ready and in its rounds, and room for all that is
 -- left.
-use Rattle.std.proofs.Common.{◌≡◌, ◌≢◌, ◌⊎◌, inl, inr, ℕ, zero, suc, ◌+◌, ◌<◌, ◌≤◌, nat_lt, Bool, true, false, cond, List, [], ◌∷◌, Option, Some, None, length, map, set, take, drop, get_or, slice_get, count_by, refl, sym, ap, subst, ◌∙◌, lt-ltb, le-ltb, arith}
+use Rattle.std.proofs.Common.{◌≡◌, ◌≢◌, ◌⊎◌, inl, inr, ℕ, zero, suc, ◌+◌, ◌-◌, ◌<◌, ◌≤◌, nat_lt, Bool, true, false, cond, List, [], ◌∷◌, Option, Some, None, length, map, set, take, drop, get_or, slice_get, count_by, refl, sym, ap, subst, ◌∙◌, lt-ltb, le-ltb, arith}
 use Rattle.std.specs.Prelude.{IsTrue}
 use Rattle.std.specs.List.{list_any}
 use Rattle.std.specs.Option.{option_map}
@@ -16,14 +16,15 @@ use Rattle.cqs_plan.specs.declared.plans.plan.Plan.{Plan}
 use Rattle.cqs_plan.specs.declared.plans.resource.Resource.{Resource}
 use Rattle.cqs_plan.specs.Arriving.{arrives, arriving, has_parties}
 use Rattle.cqs_plan.specs.PlanSteps.{is_arrival, may_wait}
-use Rattle.cqs_plan.specs.Floor.{PlainFloor, JobWait, room_at, round_of}
+use Rattle.cqs_plan.specs.Floor.{PlainFloor, JobWait, room_at, round_of, times_at}
 use Rattle.cqs_plan.specs.Runnable.{IsRunnable, kinds_of}
+use Rattle.cqs_turns_report.specs.declared.states.Patience.{Patience}
 use Rattle.cqs_turns_report.specs.declared.states.Progress.{Progress}
 use Rattle.cqs_turns_report.specs.declared.states.Progress.TheVariants.{Stepping, Working, Waiting, Ended}
-use Rattle.cqs_turns_report.specs.Ready.{IsReady, HasRoom, HasRoomFor, wait_in, steps_left}
-use Rattle.cqs_turns_report.specs.Running.{IsRunning, IsInRounds, waits_left}
-use Rattle.cqs_turns_report.specs.Turns.{Role, Acted, Machine, places_held}
-use Rattle.cqs_turns_report.proofs.Moved.{Moves}
+use Rattle.cqs_turns_report.specs.Ready.{IsReady, IsBackIn, HasArrived, HasRoom, HasRoomFor, wait_in, steps_left}
+use Rattle.cqs_turns_report.specs.Running.{IsRunning, IsInRounds, retries_left, waits_left}
+use Rattle.cqs_turns_report.specs.Turns.{Role, Scene, Acted, Machine, places_held}
+use Rattle.cqs_turns_report.proofs.Moved.{Others}
 use Rattle.cqs_turns_report.proofs.Turned.{Turned}
 
 waits-set : (at : ℕ) (jobs : List Job) (progress : List Progress) (place : ℕ) (job : Job) (p q : Progress)
@@ -212,84 +213,165 @@ module _ (plan : Plan) (m : Machine) (place : ℕ) (job : Job) (running : IsRunn
   room-of (Ended end) got = tt
 
 -- what one job does leaves the others ready
-other-ready : (place j : ℕ) (f : PlainFloor) (steps : List Step) (g : PlainFloor) (left : List Step)
-    (wait : Option JobWait) (own : List Step) → Moves place f steps g left → j ≢ place → IsReady f j wait own
-    → IsReady g j wait own
-other-ready place j f steps g left wait own moves other ready =
-    let held : places_held g j ≡ places_held f j = ap (map (λ h. h.at)) (moves.holds j other) in
+other-ready : (place j : ℕ) (f g : PlainFloor) (wait : Option JobWait) (own : List Step) → Others place f g
+    → j ≢ place → IsReady f j wait own → IsReady g j wait own
+other-ready place j f g wait own others other ready =
+    let held : places_held g j ≡ places_held f j = ap (map (λ h. h.at)) (others.holds j other) in
     record {
       job = record {
-        waits = omega (arith, ready.job.waits, moves.all_waits);
-        holds = omega (arith, ready.job.holds, moves.all_holds);
-        rounds = omega (arith, ready.job.rounds, moves.all_rounds);
-        each = rw (moves.kinds, moves.rounds j other) ready.job.each;
+        waits = omega (arith, ready.job.waits, others.all_waits);
+        holds = omega (arith, ready.job.holds, others.all_holds);
+        rounds = omega (arith, ready.job.rounds, others.all_rounds);
+        each = rw (others.kinds, others.rounds j other) ready.job.each;
       };
-      waits = moves.waits j other ∙ ready.waits;
-      holdable = rw (moves.kinds, held) ready.holdable;
-      makeable = rw (moves.kinds, held, moves.rounds j other) ready.makeable;
+      waits = others.waits j other ∙ ready.waits;
+      holdable = rw (others.kinds, held) ready.holdable;
+      makeable = rw (others.kinds, held, others.rounds j other) ready.makeable;
     }
 
 -- and in their rounds
-other-rounds : (place j : ℕ) (f : PlainFloor) (steps : List Step) (g : PlainFloor) (left own : List Step) (q : Progress)
-    → Moves place f steps g left → j ≢ place → IsInRounds f j own q → IsInRounds g j own q
-other-rounds place j f steps g left own (Stepping next) moves other rounds =
-    λ at. ap (λ row. get_or row at 0) (moves.rounds j other) ∙ rounds at
-other-rounds place j f steps g left own (Working next until) moves other rounds =
-    λ at. ap (λ row. get_or row at 0) (moves.rounds j other) ∙ rounds at
-other-rounds place j f steps g left own (Waiting next q r number) moves other rounds =
-    λ at. ap (λ row. get_or row at 0) (moves.rounds j other) ∙ rounds at
-other-rounds place j f steps g left own (Ended end) moves other rounds =
-    λ at. omega (arith, rounds at, ap (λ row. get_or row at 0) (moves.rounds j other))
+other-rounds : (place j : ℕ) (f g : PlainFloor) (own : List Step) (q : Progress) → Others place f g → j ≢ place
+    → IsInRounds f j own q → IsInRounds g j own q
+other-rounds place j f g own (Stepping next) others other rounds =
+    λ at. ap (λ row. get_or row at 0) (others.rounds j other) ∙ rounds at
+other-rounds place j f g own (Working next until) others other rounds =
+    λ at. ap (λ row. get_or row at 0) (others.rounds j other) ∙ rounds at
+other-rounds place j f g own (Waiting next q r number) others other rounds =
+    λ at. ap (λ row. get_or row at 0) (others.rounds j other) ∙ rounds at
+other-rounds place j f g own (Ended end) others other rounds =
+    λ at. omega (arith, rounds at, ap (λ row. get_or row at 0) (others.rounds j other))
 
-pub running-on : (plan : Plan) (m : Machine) (r : Role) (p : Progress) (a : Acted) → IsRunning plan m
+-- and the steps at which they wait to be made again
+other-back : (place j : ℕ) (f g : PlainFloor) (own : List Step) (q : Progress) → Others place f g → j ≢ place
+    → IsBackIn f j own q → IsBackIn g j own q
+other-back place j f g own (Stepping next) others other back = tt
+other-back place j f g own (Working next until) others other back = tt
+other-back place j f g own (Ended end) others other back = tt
+other-back place j f g own (Waiting next q r number) others other back =
+    let held : places_held g j ≡ places_held f j = ap (map (λ h. h.at)) (others.holds j other) in
+    record {
+      some = back.some;
+      below = back.below;
+      makeable = rw (others.kinds, held, others.rounds j other) back.makeable;
+      rounds = rw (others.kinds, others.rounds j other) back.rounds;
+      arrived = λ is.
+          let was : HasArrived f j (record { at = q; round = r; number = number })
+          = back.arrived (rw others.kinds at is) in
+          record {
+            round = rw others.kinds was.round;
+            last = omega (arith, was.last, ap (λ row. get_or row q 0) (others.rounds j other));
+          };
+    }
+
+-- The job that was so far, p, with this patience, x, is so far, q, with that, y, on the floor g: it is ready there, the
+-- others are as they were, and the room fell no more than what is left to the job.
+pub record Settled (r : Role) (f : PlainFloor) (p : Progress) (x : Patience) (g : PlainFloor) (q : Progress)
+    (y : Patience) : Type 0 where
+  pub ready : IsReady g r.place (wait_in q) (steps_left r.job.steps q)
+  pub others : Others r.place f g
+  pub rounds : IsInRounds g r.place r.job.steps q
+  pub back : IsBackIn g r.place r.job.steps q
+  pub room : (at : ℕ)
+      → room_at f at
+      + (count_by (may_wait at) (steps_left r.job.steps q) + times_at at r.job (r.job.retry - y.used))
+      ≤ room_at g at
+      + (count_by (may_wait at) (steps_left r.job.steps p) + times_at at r.job (r.job.retry - x.used))
+
+-- the turn of a job that uses up no retry
+pub settled-turned : (r : Role) (f : PlainFloor) (p : Progress) (x y : Patience) (a : Acted)
+    → Turned r f (steps_left r.job.steps p) a → y.used ≡ x.used → Settled r f p x a.scene.floor a.progress y
+settled-turned r f p x y a turned used = record {
+  ready = turned.ready;
+  others = turned.others;
+  rounds = turned.rounds;
+  back = turned.back;
+  room = λ at. omega (arith, turned.room at, ap (λ n. times_at at r.job (r.job.retry - n)) used);
+}
+
+retries-set : (at : ℕ) (jobs : List Job) (patience : List Patience) (place : ℕ) (job : Job) (p q : Patience)
+    → slice_get jobs place ≡ Some job → slice_get patience place ≡ Some p
+    → retries_left at jobs (set patience place q) + times_at at job (job.retry - p.used)
+    ≡ retries_left at jobs patience + times_at at job (job.retry - q.used)
+retries-set at [] patience place job p q got_job got = absurd (cc)
+retries-set at (j ∷ jobs) [] place job p q got_job got = absurd (cc)
+retries-set at (j ∷ jobs) (x ∷ patience) zero job p q got_job got =
+    let same_job : j ≡ job = cc in
+    let same : x ≡ p = cc in
+    rw (same_job, same) (omega arith)
+retries-set at (j ∷ jobs) (x ∷ patience) (suc place) job p q got_job got =
+    omega (arith, retries-set at jobs patience place job p q got_job got)
+
+-- the machine in which the job is so far, with that patience
+abbrev pub machine_with : Machine → ℕ → Scene → Progress → Patience → Machine
+machine_with m place s q y =
+    record { scene = s; progress = set m.progress place q; patience = set m.patience place y }
+
+pub running-set : (plan : Plan) (m : Machine) (r : Role) (p q : Progress) (x y : Patience) (s : Scene)
+    → IsRunning plan m
     → slice_get plan.jobs r.place ≡ Some r.job → slice_get m.progress r.place ≡ Some p
-    → Turned r m.scene.floor (steps_left r.job.steps p) a
-    → IsRunning plan (record { scene = a.scene; progress = set m.progress r.place a.progress })
-running-on plan m r p a running got_job got turned = record {
-  jobs = length-set m.progress r.place a.progress ∙ running.jobs;
-  kinds = turned.moves.kinds ∙ running.kinds;
-  ready = λ j job q its_job its_progress. ready j job q its_job its_progress (cases_eq j r.place);
+    → slice_get m.patience r.place ≡ Some x
+    → Settled r m.scene.floor p x s.floor q y
+    → IsRunning plan (machine_with m r.place s q y)
+running-set plan m r p q x y s running got_job got got_patience settled = record {
+  jobs = length-set m.progress r.place q ∙ running.jobs;
+  kinds = settled.others.kinds ∙ running.kinds;
+  ready = λ j job z its_job its_progress. ready j job z its_job its_progress (cases_eq j r.place);
+  back = λ j job z its_job its_progress. back j job z its_job its_progress (cases_eq j r.place);
+  patience = length-set m.patience r.place y ∙ running.patience;
   room = λ at. omega (
     arith,
     running.room at,
-    turned.moves.room at,
-    waits-set at plan.jobs m.progress r.place r.job p a.progress got_job got,
+    settled.room at,
+    waits-set at plan.jobs m.progress r.place r.job p q got_job got,
+    retries-set at plan.jobs m.patience r.place r.job x y got_job got_patience,
   );
-  rows = turned.moves.all_rounds ∙ running.rows;
-  rounds = λ j job q its_job its_progress. rounds j job q its_job its_progress (cases_eq j r.place);
-  parties = turned.moves.parties running.parties;
+  rows = settled.others.all_rounds ∙ running.rows;
+  rounds = λ j job z its_job its_progress. rounds j job z its_job its_progress (cases_eq j r.place);
+  parties = settled.others.parties running.parties;
 }
   where
-    ready : (j : ℕ) (job : Job) (q : Progress) → slice_get plan.jobs j ≡ Some job
-        → slice_get (set m.progress r.place a.progress) j ≡ Some q → (j ≡ r.place) ⊎ (j ≢ r.place)
-        → IsReady a.scene.floor j (wait_in q) (steps_left job.steps q)
-    ready j job q its_job its_progress (inl here) =
-        let now : slice_get (set m.progress r.place a.progress) r.place ≡ Some a.progress
-        = get-set_here m.progress r.place p a.progress got in
-        let there : slice_get (set m.progress r.place a.progress) r.place ≡ Some q = rw here at its_progress in
+    -- what is told of the job by its place, and of the others
+    own : (Tells : ℕ → Job → Progress → Type 0) → Tells r.place r.job q → (j : ℕ) (job : Job) (z : Progress)
+        → slice_get plan.jobs j ≡ Some job → slice_get (set m.progress r.place q) j ≡ Some z → j ≡ r.place
+        → Tells j job z
+    own Tells told j job z its_job its_progress here =
+        let now : slice_get (set m.progress r.place q) r.place ≡ Some q
+        = get-set_here m.progress r.place p q got in
+        let there : slice_get (set m.progress r.place q) r.place ≡ Some z = rw here at its_progress in
         let own_job : slice_get plan.jobs r.place ≡ Some job = rw here at its_job in
         let same_job : job ≡ r.job = cc in
-        let same : q ≡ a.progress = cc in
-        rw (here, same_job, same) turned.ready
-    ready j job q its_job its_progress (inr other) =
-        let before : slice_get m.progress j ≡ Some q
-        = sym (get-set_else m.progress r.place j a.progress (λ e. other (sym e))) ∙ its_progress in
-        other-ready r.place j m.scene.floor (steps_left r.job.steps p) a.scene.floor _ (wait_in q)
-        (steps_left job.steps q) turned.moves other (running.ready j job q its_job before)
+        let same : z ≡ q = cc in
+        rw (here, same_job, same) told
 
-    rounds : (j : ℕ) (job : Job) (q : Progress) → slice_get plan.jobs j ≡ Some job
-        → slice_get (set m.progress r.place a.progress) j ≡ Some q → (j ≡ r.place) ⊎ (j ≢ r.place)
-        → IsInRounds a.scene.floor j job.steps q
-    rounds j job q its_job its_progress (inl here) =
-        let now : slice_get (set m.progress r.place a.progress) r.place ≡ Some a.progress
-        = get-set_here m.progress r.place p a.progress got in
-        let there : slice_get (set m.progress r.place a.progress) r.place ≡ Some q = rw here at its_progress in
-        let own_job : slice_get plan.jobs r.place ≡ Some job = rw here at its_job in
-        let same_job : job ≡ r.job = cc in
-        let same : q ≡ a.progress = cc in
-        rw (here, same_job, same) turned.rounds
-    rounds j job q its_job its_progress (inr other) =
-        let before : slice_get m.progress j ≡ Some q
-        = sym (get-set_else m.progress r.place j a.progress (λ e. other (sym e))) ∙ its_progress in
-        other-rounds r.place j m.scene.floor (steps_left r.job.steps p) a.scene.floor _ job.steps q turned.moves other
-        (running.rounds j job q its_job before)
+    before : (j : ℕ) (z : Progress) → slice_get (set m.progress r.place q) j ≡ Some z → j ≢ r.place
+        → slice_get m.progress j ≡ Some z
+    before j z its_progress other =
+        sym (get-set_else m.progress r.place j q (λ e. other (sym e))) ∙ its_progress
+
+    ready : (j : ℕ) (job : Job) (z : Progress) → slice_get plan.jobs j ≡ Some job
+        → slice_get (set m.progress r.place q) j ≡ Some z → (j ≡ r.place) ⊎ (j ≢ r.place)
+        → IsReady s.floor j (wait_in z) (steps_left job.steps z)
+    ready j job z its_job its_progress (inl here) =
+        own (λ j job z. IsReady s.floor j (wait_in z) (steps_left job.steps z)) settled.ready j job z its_job
+        its_progress here
+    ready j job z its_job its_progress (inr other) =
+        other-ready r.place j m.scene.floor s.floor (wait_in z) (steps_left job.steps z) settled.others other
+        (running.ready j job z its_job (before j z its_progress other))
+
+    back : (j : ℕ) (job : Job) (z : Progress) → slice_get plan.jobs j ≡ Some job
+        → slice_get (set m.progress r.place q) j ≡ Some z → (j ≡ r.place) ⊎ (j ≢ r.place)
+        → IsBackIn s.floor j job.steps z
+    back j job z its_job its_progress (inl here) =
+        own (λ j job z. IsBackIn s.floor j job.steps z) settled.back j job z its_job its_progress here
+    back j job z its_job its_progress (inr other) =
+        other-back r.place j m.scene.floor s.floor job.steps z settled.others other
+        (running.back j job z its_job (before j z its_progress other))
+
+    rounds : (j : ℕ) (job : Job) (z : Progress) → slice_get plan.jobs j ≡ Some job
+        → slice_get (set m.progress r.place q) j ≡ Some z → (j ≡ r.place) ⊎ (j ≢ r.place)
+        → IsInRounds s.floor j job.steps z
+    rounds j job z its_job its_progress (inl here) =
+        own (λ j job z. IsInRounds s.floor j job.steps z) settled.rounds j job z its_job its_progress here
+    rounds j job z its_job its_progress (inr other) =
+        other-rounds r.place j m.scene.floor s.floor job.steps z settled.others other
+        (running.rounds j job z its_job (before j z its_progress other))

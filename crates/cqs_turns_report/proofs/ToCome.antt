@@ -15,6 +15,7 @@ use Rattle.cqs_barrier_object.specs.BarrierObject as barriers
 use Rattle.cqs_plan.specs.declared.plans.kind.Kind.TheVariants.{Rounds}
 use Rattle.cqs_plan.specs.FloorHistory.{History, of_permits, of_elements, of_latch, of_rounds, Deed, takes, joins, frees, sends, gets, leaves, is_late, completes, latch_entries, barrier_entries, latch_after, barrier_after, entries_in, with_deed_in, to_come}
 use Rattle.cqs_plan.specs.Floor.{PlainFloor, history_at, size_at, to_come_at, with_done_in}
+use Rattle.cqs_turns_report.specs.Running.{HasRounds}
 
 -- what a latch, or a barrier, is after a deed
 abbrev pub latch_then : Latch → Deed → Latch
@@ -212,6 +213,29 @@ keeps-barriers f at round deed keeps q r parties rounds barrier = go (done-histo
           ap (λ n. to_come (size_at f n) (with_deed_in (size_at f at) (history_at f at) round deed) r) here,
           keeps (size_at f at) (history_at f at) round r,
         )
+
+-- a deed leaves each barrier the histories of its rounds
+pub rounds-done : (f : PlainFloor) (at round : ℕ) (deed : Deed) (q rounds : ℕ) → HasRounds rounds (history_at f q)
+    → HasRounds rounds (history_at (with_done_in f at round deed) q)
+rounds-done f at round deed q rounds has = go (done-history f at round deed q)
+  where
+    entries : List BarrierEntry
+    entries = entries_in has.all round
+
+    now : List BarrierEntry
+    now = entries ++ barrier_entries (barrier_after (size_at f at) entries).waiters.line deed
+
+    go : (history_at (with_done_in f at round deed) q ≡ history_at f q)
+        ⊎ ((q ≡ at)
+        × (history_at (with_done_in f at round deed) q ≡ with_deed_in (size_at f at) (history_at f at) round deed))
+        → HasRounds rounds (history_at (with_done_in f at round deed) q)
+    go (inl same) = record { all = has.all; is = same ∙ has.is; many = has.many }
+    go (inr (here, is)) = record {
+      all = set has.all round now;
+      is = is
+          ∙ ap (λ h. with_deed_in (size_at f at) h round deed) (ap (λ n. history_at f n) (sym here) ∙ has.is);
+      many = omega (arith, has.many, length-set has.all round now);
+    }
 
 -- no barrier is at the place
 abbrev pub IsNoBarrier : PlainFloor → ℕ → Type 0

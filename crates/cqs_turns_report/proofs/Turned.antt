@@ -1,5 +1,5 @@
 -- What the turn of a job leaves: the job is ready for its next turn, and the floor has moved for this job alone.
-use Rattle.std.proofs.Common.{◌≡◌, ℕ, ◌+◌, ◌≤◌, List, [], ◌∷◌, Bool, true, false, cond, nat_lt, Option, Some, None, take, drop, count_by, refl, sym, ap, ◌∙◌, arith}
+use Rattle.std.proofs.Common.{◌≡◌, ℕ, ◌+◌, ◌-◌, ◌≤◌, List, [], ◌∷◌, Bool, true, false, ◌&&◌, cond, nat_lt, Option, Some, None, take, drop, get_or, count_by, refl, sym, ap, ◌∙◌, arith}
 use Rattle.std.specs.Bool.{if◌then◌else◌}
 use Rattle.std.specs.Option.{option_map_or}
 use Rattle.std.proofs.lemmas.List.{drop-drop}
@@ -11,25 +11,45 @@ use Rattle.cqs_plan.specs.declared.floors.answers.FloorTake.TheVariants.{Now, Wa
 use Rattle.cqs_plan.specs.declared.floors.answers.FloorLook.{FloorLook}
 use Rattle.cqs_plan.specs.declared.floors.answers.FloorLook.TheVariants.{Pending, Granted}
 use Rattle.cqs_plan.specs.declared.floors.answers.FloorLeave.{FloorLeave}
-use Rattle.cqs_plan.specs.PlanSteps.{is_arrival}
-use Rattle.cqs_plan.specs.Floor.{PlainFloor, round_of}
-use Rattle.cqs_plan.specs.FloorCalls.{take_answer, give_answer, wait_answer, arrive_answer, look_answer, leave_answer, after_look}
+use Rattle.cqs_plan.specs.declared.floors.answers.FloorLeave.TheVariants as leave
+use Rattle.cqs_plan.specs.PlanSteps.{is_arrival, may_wait}
+use Rattle.cqs_plan.specs.Floor.{PlainFloor, JobWait, own_rounds, room_at, round_of}
+use Rattle.cqs_plan.specs.FloorCalls.{take_answer, give_answer, wait_answer, arrive_answer, look_answer, leave_answer, after_look, with_left}
 use Rattle.cqs_turns_report.specs.declared.lines.Told.TheVariants as told
+use Rattle.cqs_turns_report.specs.declared.states.Patience.{Patience}
 use Rattle.cqs_turns_report.specs.declared.states.Progress.{Progress}
 use Rattle.cqs_turns_report.specs.declared.states.Progress.TheVariants.{Stepping, Working, Waiting, Ended}
-use Rattle.cqs_turns_report.specs.Ready.{IsReady, HasRoom, HasRoomFor, wait_in, steps_left}
+use Rattle.cqs_turns_report.specs.Ready.{IsReady, IsBack, IsBackIn, HasRoom, HasRoomFor, row_back, wait_in, steps_left}
 use Rattle.cqs_turns_report.specs.Running.{IsInRounds}
 use Rattle.cqs_turns_report.specs.Roles.{wait_at}
-use Rattle.cqs_turns_report.specs.Turns.{Role, Scene, Made, Acted, event, on_give, on_take, on_wait, on_arrive, after_gives, after_step, after_coming, stop_or, after_steps, go_on, left_at, after_last_step, on_leave, after_giving_up, after_looking, after_acting, is_due, places_held}
-use Rattle.cqs_turns_report.proofs.Moved.{Moves, moves-fewer, moves-none, moves-on, on_give-moves, leave-moves, after_looking-moves, room-after}
+use Rattle.cqs_turns_report.specs.Turns.{Role, Scene, Made, Acted, event, on_give, on_take, on_wait, on_arrive, after_gives, after_all_gives, after_step, after_coming, stop_or, after_steps, go_on, left_at, after_last_step, on_leave, after_giving_up, after_looking, after_retrying, after_acting, end_of, is_over_time, retries, places_held}
+use Rattle.cqs_turns_report.proofs.Moved.{Moves, Others, others-of, others-on, moves-none, moves-on, on_give-moves, late-moves, late-room, after_looking-moves, room-after}
+use Rattle.cqs_turns_report.proofs.Leaving.{left-others, own-back}
 use Rattle.cqs_turns_report.proofs.Readied.{first-ready, leave-ready, after_looking-ready}
 use Rattle.cqs_turns_report.proofs.Stepping.{after_step-ready, after_step-moves, step-room}
+use Rattle.cqs_turns_report.proofs.SteppingBack.{step-back}
 
--- the job that had these steps left on the floor f is ready, and the floor has moved for it alone
+-- the job that had these steps left on the floor f is ready, the floor has moved for it alone, and the room fell no
+-- more than the steps that may wait
 pub record Turned (r : Role) (f : PlainFloor) (steps : List Step) (a : Acted) : Type 0 where
   pub ready : IsReady a.scene.floor r.place (wait_in a.progress) (steps_left r.job.steps a.progress)
-  pub moves : Moves r.place f steps a.scene.floor (steps_left r.job.steps a.progress)
+  pub others : Others r.place f a.scene.floor
+  pub room : (at : ℕ)
+      → room_at f at + count_by (may_wait at) (steps_left r.job.steps a.progress)
+      ≤ room_at a.scene.floor at + count_by (may_wait at) steps
   pub rounds : IsInRounds a.scene.floor r.place r.job.steps a.progress
+  pub back : IsBackIn a.scene.floor r.place r.job.steps a.progress
+
+-- the job that had these steps left made some before it turned
+turned-on : (r : Role) (f : PlainFloor) (steps : List Step) (g : PlainFloor) (left : List Step) (a : Acted)
+    → Moves r.place f steps g left → Turned r g left a → Turned r f steps a
+turned-on r f steps g left a moves turned = record {
+  ready = turned.ready;
+  others = others-on r.place f g a.scene.floor (others-of r.place f steps g left moves) turned.others;
+  room = λ at. omega (arith, moves.room at, turned.room at);
+  rounds = turned.rounds;
+  back = turned.back;
+}
 
 after_gives-ready : (r : Role) (places : List ℕ) (s : Scene) → IsReady s.floor r.place None []
     → IsReady (after_gives r places s).floor r.place None []
@@ -58,8 +78,10 @@ after_last_step-turned r next s ready room =
     = after_gives-moves r (places_held s.floor r.place) s in
     record {
       ready = after_gives-ready r (places_held s.floor r.place) s ready;
-      moves = moved;
+      others = others-of r.place s.floor [] _ [] moved;
+      room = moved.room;
       rounds = λ q. omega (arith, moved.arrives q, room.round q, made-among r next q);
+      back = tt;
     }
 
 -- the steps after the first
@@ -98,14 +120,17 @@ stops-before r next (Arrive at) rest s f p after stops =
 stop-turned : (r : Role) (scene : Scene) (stops : Option Progress) (onward : Acted) (next : ℕ) (rest : List Step)
     → IsReady scene.floor r.place (option_map_or wait_in stops None) rest
     → ((p : Progress) → stops ≡ Some p → IsAfter r next rest scene.floor p)
+    → ((p : Progress) → stops ≡ Some p → IsBackIn scene.floor r.place r.job.steps p)
     → ((q : ℕ) → round_of scene.floor r.place q ≡ count_by (is_arrival q) (take (next + 1) r.job.steps))
     → (stops ≡ None → Turned r scene.floor rest onward)
     → Turned r scene.floor rest (stop_or (record { scene = scene; stops = stops }) onward)
-stop-turned r scene None onward next rest ready left rounds goes = goes refl
-stop-turned r scene (Some p) onward next rest ready left rounds goes = record {
+stop-turned r scene None onward next rest ready left back rounds goes = goes refl
+stop-turned r scene (Some p) onward next rest ready left back rounds goes = record {
   ready = rw ((left p refl).0) ready;
-  moves = rw ((left p refl).0) (moves-none r.place scene.floor rest);
+  others = others-of r.place scene.floor rest scene.floor rest (moves-none r.place scene.floor rest);
+  room = rw ((left p refl).0) (λ at. omega arith);
   rounds = (left p refl).1 rounds;
+  back = back p refl;
 }
 
 pub after_steps-turned : (r : Role) (steps : List Step) (next : ℕ) (s : Scene) → drop next r.job.steps ≡ steps
@@ -124,82 +149,133 @@ after_steps-turned r (step ∷ rest) next s split ready room =
     = step-room r next step rest s split ready room in
     let goes : m.stops ≡ None → Turned r m.scene.floor rest onward = λ none.
     after_steps-turned r rest (next + 1) m.scene after (rw none at waits) left in
-    let turned : Turned r m.scene.floor rest (stop_or m onward)
-    = stop-turned r m.scene m.stops onward next rest waits (λ p. stops-before r next step rest s m.scene.floor p after)
-    left.round goes in
-    record {
-      ready = turned.ready;
-      moves = moves-on r.place s.floor (step ∷ rest) m.scene.floor rest _ _ moved turned.moves;
-      rounds = turned.rounds;
-    }
+    turned-on r s.floor (step ∷ rest) m.scene.floor rest (stop_or m onward) moved
+    (stop-turned r m.scene m.stops onward next rest waits (λ p. stops-before r next step rest s m.scene.floor p after)
+    (step-back r next rest s step split ready room) left.round goes)
 
 turned-if : (r : Role) (f : PlainFloor) (steps : List Step) (b : Bool) (a c : Acted) → Turned r f steps a
     → Turned r f steps c → Turned r f steps (if b then a else c)
 turned-if r f steps true a c here there = here
 turned-if r f steps false a c here there = there
 
+-- the job that gave its wait up on this floor gives back all that it holds
+ended-turned : (r : Role) (f : PlainFloor) (e : Scene) (answer : FloorLeave) (steps : List Step)
+    → IsReady e.floor r.place None [] → Others r.place f e.floor → ((at : ℕ) → room_at e.floor at ≡ room_at f at)
+    → ((q : ℕ) → round_of e.floor r.place q ≤ count_by (is_arrival q) r.job.steps)
+    → Turned r f steps (left_at (after_all_gives r e) (Ended (end_of answer)))
+ended-turned r f e answer steps ready others room rounds =
+    let given : Moves r.place e.floor [] (after_all_gives r e).floor []
+    = after_gives-moves r (places_held e.floor r.place) e in
+    record {
+      ready = after_gives-ready r (places_held e.floor r.place) e ready;
+      others = others-on r.place f e.floor _ others (others-of r.place e.floor [] _ [] given);
+      room = λ at. omega (arith, given.room at, room at);
+      rounds = λ q. omega (arith, given.arrives q, rounds q);
+      back = tt;
+    }
+
 after_giving_up-turned : (r : Role) (next at round number : ℕ) (answer : FloorLeave) (s : Scene) (steps : List Step)
     → IsReady s.floor r.place (Some (wait_at at round number)) steps
     → HasRoom s.floor r.place (take next r.job.steps) steps
+    → IsBack s.floor r.place r.job.steps next (wait_at at round number)
     → Turned r s.floor steps (after_giving_up r at round number answer s)
-after_giving_up-turned r next at round number answer s steps ready room =
-    let e : Scene = on_leave r at round number answer s in
+after_giving_up-turned r next at round number leave.Gone s steps ready room back =
     let f : PlainFloor = s.floor in
-    let left : Moves r.place f [] (after_giving_up r at round number answer s).scene.floor []
-    = moves-on r.place f [] e.floor [] _ [] (leave-moves r.place f answer [])
-    (after_gives-moves r (places_held e.floor r.place) e) in
-    record {
-      ready = after_gives-ready r (places_held e.floor r.place) e
-          (leave-ready f r.place (wait_at at round number) answer steps ready);
-      moves = moves-on r.place f steps f [] _ []
-          (moves-fewer r.place f steps [] (λ q. omega arith) (λ q. omega arith)) left;
-      rounds = λ q. omega (arith, left.arrives q, room.round q, made-among r next q);
-    }
+    let wait : JobWait = wait_at at round number in
+    let e : Scene = on_leave r at round number leave.Gone s in
+    let gone : e.floor ≡ with_left f r.place (Some wait) = ap (with_left f r.place) ready.waits in
+    let row : own_rounds e.floor r.place ≡ row_back f.kinds (own_rounds f r.place) wait
+    = ap (λ (g : PlainFloor). own_rounds g r.place) gone ∙ own-back f r.place wait ready.job in
+    ended-turned r f e leave.Gone steps (leave-ready f r.place wait leave.Gone steps ready)
+    (rw gone (left-others f r.place wait ready.job back.arrived))
+    (λ q. ap (λ (g : PlainFloor). room_at g q) gone)
+    (λ q. omega (arith, ap (λ row. get_or row q 0) row, back.rounds q, made-among r (next - 1) q))
+after_giving_up-turned r next at round number (leave.Late element) s steps ready room back =
+    let f : PlainFloor = s.floor in
+    let e : Scene = on_leave r at round number (leave.Late element) s in
+    let moved : Moves r.place f [] e.floor [] = late-moves r.place f element [] in
+    ended-turned r f e (leave.Late element) steps
+    (leave-ready f r.place (wait_at at round number) (leave.Late element) steps ready)
+    (others-of r.place f [] e.floor [] moved) (late-room r.place f element)
+    (λ q. omega (arith, moved.arrives q, room.round q, made-among r next q))
 
 after_looking-turned : (r : Role) (next at round number : ℕ) (answer : FloorLook) (s : Scene)
     → IsReady s.floor r.place (Some (wait_at at round number)) (drop next r.job.steps)
     → HasRoom s.floor r.place (take next r.job.steps) (drop next r.job.steps)
+    → IsBack s.floor r.place r.job.steps next (wait_at at round number)
     → Turned r s.floor (drop next r.job.steps) (after_looking r next at round number answer s)
-after_looking-turned r next at round number Pending s ready room = record {
+after_looking-turned r next at round number Pending s ready room back = record {
   ready = ready;
-  moves = moves-none r.place s.floor (drop next r.job.steps);
+  others = others-of r.place s.floor _ s.floor _ (moves-none r.place s.floor (drop next r.job.steps));
+  room = λ at. omega arith;
   rounds = room.round;
+  back = back;
 }
-after_looking-turned r next at round number (Granted element) s ready room =
+after_looking-turned r next at round number (Granted element) s ready room back =
     let steps : List Step = drop next r.job.steps in
     let g : PlainFloor = after_look s.floor r.place (Granted element) in
     let e : Scene = event r s g (told.Served at round number element) in
     let moved : Moves r.place s.floor steps g steps = after_looking-moves r.place s.floor element steps in
     let still : (q : ℕ) → round_of g r.place q ≡ count_by (is_arrival q) (take next r.job.steps)
     = λ q. omega (arith, moved.arrives q, moved.later q, room.round q) in
-    let turned : Turned r g steps (after_steps r steps next e)
-    = after_steps-turned r steps next e refl
+    turned-on r s.floor steps g steps (after_steps r steps next e) moved
+    (after_steps-turned r steps next e refl
     (after_looking-ready s.floor r.place (wait_at at round number) element steps ready)
-    (room-after r.place s.floor steps g steps (take next r.job.steps) (take next r.job.steps) moved room still) in
-    record {
-      ready = turned.ready;
-      moves = moves-on r.place s.floor steps g steps _ _ moved turned.moves;
-      rounds = turned.rounds;
-    }
+    (room-after r.place s.floor steps g steps (take next r.job.steps) (take next r.job.steps) moved room still))
 
--- the turn of a job
-pub after_acting-turned : (r : Role) (p : Progress) (s : Scene)
+-- the job makes the step again at which it waited
+abbrev pub is_retrying : Role → Patience → Progress → Scene → Bool
+is_retrying r patience (Waiting next at round number) s =
+    is_over_time r patience && retries r patience (leave_answer s.floor r.place)
+is_retrying r patience (Stepping next) s = false
+is_retrying r patience (Working next until) s = false
+is_retrying r patience (Ended end) s = false
+
+-- the turn of a job that doesn't
+pub after_acting-turned : (r : Role) (patience : Patience) (p : Progress) (s : Scene)
     → IsReady s.floor r.place (wait_in p) (steps_left r.job.steps p) → HasRoomFor s.floor r.place r.job.steps p
-    → IsInRounds s.floor r.place r.job.steps p
-    → Turned r s.floor (steps_left r.job.steps p) (after_acting r p s)
-after_acting-turned r (Stepping next) s ready room rounds =
+    → IsInRounds s.floor r.place r.job.steps p → IsBackIn s.floor r.place r.job.steps p
+    → is_retrying r patience p s ≡ false
+    → Turned r s.floor (steps_left r.job.steps p) (after_acting r patience p s)
+after_acting-turned r patience (Stepping next) s ready room rounds back calm =
     after_steps-turned r (drop next r.job.steps) next s refl ready room
-after_acting-turned r (Working next until) s ready room rounds =
+after_acting-turned r patience (Working next until) s ready room rounds back calm =
     let steps : List Step = drop next r.job.steps in
     turned-if r s.floor steps (nat_lt r.turn until) (left_at s (Working next until)) (go_on r next s)
-    (record { ready = ready; moves = moves-none r.place s.floor steps; rounds = rounds })
+    (record {
+      ready = ready;
+      others = others-of r.place s.floor steps s.floor steps (moves-none r.place s.floor steps);
+      room = λ at. omega arith;
+      rounds = rounds;
+      back = tt;
+    })
     (after_steps-turned r steps next s refl ready room)
-after_acting-turned r (Waiting next at round number) s ready room rounds =
-    let steps : List Step = drop next r.job.steps in
-    turned-if r s.floor steps (is_due r.job.deadline r.turn)
-    (after_giving_up r at round number (leave_answer s.floor r.place) s)
-    (after_looking r next at round number (look_answer s.floor r.place) s)
-    (after_giving_up-turned r next at round number (leave_answer s.floor r.place) s steps ready room)
-    (after_looking-turned r next at round number (look_answer s.floor r.place) s ready room)
-after_acting-turned r (Ended end) s ready room rounds =
-    record { ready = ready; moves = moves-none r.place s.floor []; rounds = rounds }
+after_acting-turned r patience (Waiting next at round number) s ready room rounds back calm =
+    by (is_over_time r patience) (retries r patience (leave_answer s.floor r.place)) calm
+  where
+    steps : List Step
+    steps = drop next r.job.steps
+
+    again : Acted
+    again = after_retrying r next at round number s
+
+    up : Acted
+    up = after_giving_up r at round number (leave_answer s.floor r.place) s
+
+    looks : Acted
+    looks = after_looking r next at round number (look_answer s.floor r.place) s
+
+    by : (long more : Bool) → (long && more) ≡ false
+        → Turned r s.floor steps (if long then (if more then again else up) else looks)
+    by true true is = absurd (cc)
+    by true false is =
+        after_giving_up-turned r next at round number (leave_answer s.floor r.place) s steps ready room back
+    by false more is = after_looking-turned r next at round number (look_answer s.floor r.place) s ready room back
+after_acting-turned r patience (Ended end) s ready room rounds back calm =
+    record {
+      ready = ready;
+      others = others-of r.place s.floor [] s.floor [] (moves-none r.place s.floor []);
+      room = λ at. omega arith;
+      rounds = rounds;
+      back = tt;
+    }

@@ -1,6 +1,6 @@
 -- What a call of a job's turn comes to: what the turn machine says; and where memory ran out, the
 -- report is a prefix of the text that it would have come to.
-use Rattle.std.specs.Prelude.{◌≡◌, ℕ, List, Option, Some, None, Result, OnOk, OnErr, IfOk}
+use Rattle.std.specs.Prelude.{◌≡◌, ℕ, List, Option, Result, OnOk, OnErr, IfOk}
 use Rattle.cqs_core.specs.declared.shortage.Memory.{Memory}
 use Rattle.cqs_turns_report.specs.declared.states.Progress.{Progress}
 use Rattle.cqs_core.specs.Parts.{IsPrefix}
@@ -24,17 +24,6 @@ text_acted a = a.scene.text
 pub record LeavesAt (result : Result Progress Memory) (expected : Acted)
     (now : Scene) : Type 0 where
   pub ok : IfOk result (λ progress. left_at now progress ≡ expected)
-  pub err : OnErr result (IsPrefix now.text expected.scene.text)
-
--- the progress that is answered, or else the one before
-abbrev pub progress_or : Progress → Option Progress → Progress
-progress_or before None = before
-progress_or before (Some progress) = progress
-
--- it comes to this, with the progress that is answered, or else the one before
-pub record LeavesFrom (before : Progress) (result : Result (Option Progress) Memory)
-    (expected : Acted) (now : Scene) : Type 0 where
-  pub ok : IfOk result (λ moved. left_at now (progress_or before moved) ≡ expected)
   pub err : OnErr result (IsPrefix now.text expected.scene.text)
 
 -- it comes to this, and the turn ends with the progress that is answered, if there is one

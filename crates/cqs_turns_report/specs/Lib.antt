@@ -3,6 +3,7 @@ pub mod Counted
 pub mod Machine
 pub mod Turns
 pub mod Report
+pub mod FirstVersion
 pub mod Ready
 pub mod Roles
 pub mod Running

@@ -67,6 +67,8 @@ told_text resources (told.GivesSent at element number) =
     ++ decimal number
 told_text resources (told.GaveUp at round number) =
     codes "gaveup " ++ wait_text resources at round number
+told_text resources (told.Retries at round number) =
+    codes "retries " ++ wait_text resources at round number
 told_text resources (told.Late at round number) =
     codes "late " ++ wait_text resources at round number
 told_text resources (told.Passes at) = codes "passes " ++ name_at resources at

@@ -1,7 +1,7 @@
 -- The turn machine, over any world: what the jobs of a plan do, turn by turn,
 -- whatever answers their calls.
-use Rattle.std.specs.Prelude.{ℕ, zero, suc, ◌+◌, nat_lt, nat_le, Bool, true, false, List, [], ◌∷◌, Option, Some, None, length, drop, replicate, slice_index_or, slice_set, if◌then◌else◌}
-use Rattle.std.specs.Option.{option_map_or}
+use Rattle.std.specs.Prelude.{ℕ, zero, suc, ◌+◌, ◌-◌, nat_lt, nat_le, Bool, true, false, not, ◌&&◌, ◌||◌, List, [], ◌∷◌, Option, Some, None, length, drop, replicate, slice_index_or, slice_set, if◌then◌else◌}
+use Rattle.std.specs.Option.{option_map, option_map_or}
 use Rattle.cqs_plan.specs.declared.plans.resource.Resource.{Resource}
 use Rattle.cqs_plan.specs.declared.plans.step.Step.{Step}
 use Rattle.cqs_plan.specs.declared.plans.step.Step.TheVariants.{Take, Give, Down, Await, Arrive, Work}
@@ -13,6 +13,7 @@ use Rattle.cqs_plan.specs.declared.floors.answers.FloorLook.{FloorLook}
 use Rattle.cqs_plan.specs.declared.floors.answers.FloorLook.TheVariants.{Pending, Granted}
 use Rattle.cqs_plan.specs.declared.floors.answers.FloorLeave.{FloorLeave}
 use Rattle.cqs_plan.specs.declared.floors.answers.FloorLeave.TheVariants as leave
+use Rattle.cqs_turns_report.specs.declared.states.Patience.{Patience}
 use Rattle.cqs_turns_report.specs.declared.states.End.{End}
 use Rattle.cqs_turns_report.specs.declared.states.End.TheVariants as end
 use Rattle.cqs_turns_report.specs.declared.states.Progress.{Progress}
@@ -47,6 +48,8 @@ pub record World (S : Type 0) : Type 0 where
   -- the cancelling of the wait at a place, in a round, under a number
   pub leave_answer : Role → S → FloorLeave
   pub after_leave : Role → ℕ → ℕ → ℕ → FloorLeave → S → S
+  -- the same, where the wait is gone and the job makes the step again at which it waited
+  pub after_retry : Role → ℕ → ℕ → ℕ → S → S
   -- the job is done
   pub done : Role → S → S
   -- the places of what a job holds, oldest first
@@ -62,14 +65,54 @@ pub record MadeIn (S : Type 0) : Type 0 where
   pub scene : S
   pub stops : Option Progress
 
--- the whole: the world, and how far each job is
+-- the whole: the world, how far each job is, and what its patience rests on
 pub record MachineIn (S : Type 0) : Type 0 where
   pub scene : S
   pub progress : List Progress
+  pub patience : List Patience
 
 -- the deadline has come
 abbrev pub is_due : Option ℕ → ℕ → Bool
 is_due deadline turn = option_map_or (λ d. nat_le d turn) deadline false
+
+-- the job, which waits, has waited for as many turns as it may
+abbrev pub is_outwaited : Role → Patience → Bool
+is_outwaited r patience =
+    is_due (option_map (λ within. patience.since + within) r.job.within) r.turn
+
+-- the job, which waits, is over time
+abbrev pub is_over_time : Role → Patience → Bool
+is_over_time r patience = is_due r.job.deadline r.turn || is_outwaited r patience
+
+-- the job has a retry left, and its deadline hasn't come
+abbrev pub may_retry : Role → Patience → Bool
+may_retry r patience = not (is_due r.job.deadline r.turn) && nat_lt patience.used r.job.retry
+
+-- a job over time that was answered so when it cancelled its wait makes the step again
+abbrev pub retries : Role → Patience → FloorLeave → Bool
+retries r patience leave.Gone = may_retry r patience
+retries r patience (leave.Late element) = false
+
+-- before its first turn
+abbrev pub fresh : Patience
+fresh = record { since = 0; used = 0 }
+
+-- the job moves in this turn, and in the second case has used up a retry
+abbrev pub moved : Role → Patience → Patience
+moved r patience = record patience { since = r.turn }
+
+abbrev pub retried : Role → Patience → Patience
+retried r patience = record { since = r.turn; used = patience.used + 1 }
+
+-- a job over time that was answered so when it cancelled its wait
+abbrev pub after_leave_at : Role → Patience → FloorLeave → Patience
+after_leave_at r patience answer =
+    if retries r patience answer then retried r patience else patience
+
+-- a job that looked at its wait
+abbrev pub after_look_at : Role → Patience → FloorLook → Patience
+after_look_at r patience Pending = patience
+after_look_at r patience (Granted element) = moved r patience
 
 -- a job that has ended, or still works, does nothing in its turn
 abbrev pub rests : ℕ → Progress → Bool
@@ -154,22 +197,49 @@ module _ {S : Type 0} (w : World S) where
   after_looking r next at round number (Granted element) s =
       go_on r next (w.after_look r at round number (Granted element) s)
 
+  -- the wait of the job is gone, and it makes the step again at which it waited
+  abbrev pub after_retrying : Role → ℕ → ℕ → ℕ → ℕ → S → ActedIn S
+  after_retrying r next at round number s = go_on r (next - 1) (w.after_retry r at round number s)
+
+  -- the job is over time, and cancels its wait
+  abbrev pub after_waiting_long : Role → Patience → ℕ → ℕ → ℕ → ℕ → FloorLeave → S → ActedIn S
+  after_waiting_long r patience next at round number answer s =
+      if retries r patience answer then after_retrying r next at round number s
+      else after_giving_up r at round number answer s
+
   -- the turn of a job
-  abbrev pub after_acting : Role → Progress → S → ActedIn S
-  after_acting r (Stepping next) s = go_on r next s
-  after_acting r (Working next until) s =
+  abbrev pub after_acting : Role → Patience → Progress → S → ActedIn S
+  after_acting r patience (Stepping next) s = go_on r next s
+  after_acting r patience (Working next until) s =
       if nat_lt r.turn until then left_at s (Working next until) else go_on r next s
-  after_acting r (Waiting next at round number) s =
-      if is_due r.job.deadline r.turn then after_giving_up r at round number (w.leave_answer r s) s
+  after_acting r patience (Waiting next at round number) s =
+      if is_over_time r patience
+      then after_waiting_long r patience next at round number (w.leave_answer r s) s
       else after_looking r next at round number (w.look_answer r s) s
-  after_acting r (Ended end) s = left_at s (Ended end)
+  after_acting r patience (Ended end) s = left_at s (Ended end)
+
+  -- the patience of a job after its turn
+  abbrev pub patience_after : Role → Patience → Progress → S → Patience
+  patience_after r patience (Stepping next) s = moved r patience
+  patience_after r patience (Working next until) s =
+      if nat_lt r.turn until then patience else moved r patience
+  patience_after r patience (Waiting next at round number) s =
+      if is_over_time r patience then after_leave_at r patience (w.leave_answer r s)
+      else after_look_at r patience (w.look_answer r s)
+  patience_after r patience (Ended end) s = patience
 
   -- the job at a place has its turn
   abbrev pub one_job : List Resource → ℕ → ℕ → Job → MachineIn S → MachineIn S
   one_job resources turn place job m =
-      let a = after_acting (record { resources = resources; turn = turn; place = place; job = job })
-      (slice_index_or m.progress place (Ended end.Done)) m.scene in
-      record { scene = a.scene; progress = slice_set m.progress place a.progress }
+      let r : Role = record { resources = resources; turn = turn; place = place; job = job } in
+      let patience = slice_index_or m.patience place fresh in
+      let progress = slice_index_or m.progress place (Ended end.Done) in
+      let a = after_acting r patience progress m.scene in
+      record {
+        scene = a.scene;
+        progress = slice_set m.progress place a.progress;
+        patience = slice_set m.patience place (patience_after r patience progress m.scene);
+      }
 
   -- these jobs have their turns in order; the first one's place is `place`
   abbrev pub each_job : List Resource → ℕ → ℕ → List Job → MachineIn S → MachineIn S
@@ -184,5 +254,9 @@ module _ {S : Type 0} (w : World S) where
   -- the machine after the first so many turns, where it began with this world
   abbrev pub machine_after : Plan → S → ℕ → MachineIn S
   machine_after plan s zero =
-      record { scene = s; progress = replicate (length plan.jobs) (Stepping 0) }
+      record {
+        scene = s;
+        progress = replicate (length plan.jobs) (Stepping 0);
+        patience = replicate (length plan.jobs) fresh;
+      }
   machine_after plan s (suc turn) = one_turn plan turn (machine_after plan s turn)

@@ -1,6 +1,6 @@
 -- What a job's turn rests on: the floor knows the job as its progress does, and its
 -- steps can be made from there.
-use Rattle.std.specs.Prelude.{◌≡◌, ℕ, ◌+◌, ◌≤◌, ◌<◌, List, [], ◌∷◌, ◌++◌, Option, Some, None, Bool, true, false, ◌==◌, take, drop, count_by, slice_get, slice_index_or, slice_set}
+use Rattle.std.specs.Prelude.{◌≡◌, ℕ, ◌+◌, ◌-◌, ◌≤◌, ◌<◌, List, [], ◌∷◌, ◌++◌, Option, Some, None, Bool, true, false, ◌==◌, length, take, drop, count_by, slice_get, slice_index_or, slice_set, if◌then◌else◌}
 use Rattle.std.specs.Option.{option_map_or}
 use Rattle.std.specs.List.{list_any}
 use Rattle.cqs_core.specs.Keyed.{without}
@@ -10,11 +10,14 @@ use Rattle.cqs_plan.specs.declared.plans.step.Step.TheVariants.{Take, Give, Down
 use Rattle.cqs_plan.specs.declared.plans.kind.Kind.TheVariants.{Rounds}
 use Rattle.cqs_plan.specs.Language.{can_hold}
 use Rattle.cqs_plan.specs.PlanSteps.{is_arrival, may_wait}
-use Rattle.cqs_plan.specs.Floor.{PlainFloor, JobWait, IsJob, IsHoldable, wait_of, room_at, own_rounds, round_of, to_come_at}
+use Rattle.cqs_plan.specs.declared.floors.answers.FloorLeave.TheVariants.{Gone}
+use Rattle.cqs_plan.specs.Floor.{PlainFloor, JobWait, IsJob, IsHoldable, HasRound, is_barrier_in, wait_of, room_at, own_rounds, round_of, to_come_at}
+use Rattle.cqs_plan.specs.FloorCalls.{after_leave}
 use Rattle.cqs_plan.specs.Runnable.{IsMakeable}
 use Rattle.cqs_turns_report.specs.declared.states.Progress.{Progress}
 use Rattle.cqs_turns_report.specs.declared.states.Progress.TheVariants.{Stepping, Working, Waiting, Ended}
-use Rattle.cqs_turns_report.specs.Turns.{places_held}
+use Rattle.cqs_turns_report.specs.declared.states.Patience.{Patience}
+use Rattle.cqs_turns_report.specs.Turns.{Role, may_retry, places_held}
 
 -- the steps that a job has still to make
 abbrev pub steps_left : List Step → Progress → List Step
@@ -88,6 +91,36 @@ pub record IsReady (f : PlainFloor) (place : ℕ) (wait : Option JobWait)
   pub makeable : CanMake f.kinds (coming f.kinds (places_held f place) wait)
       (own_rounds f place) steps
 
+-- in which rounds a job arrives next, of these, once its wait is gone
+abbrev pub row_back : List Kind → List ℕ → JobWait → List ℕ
+row_back kinds rounds wait =
+    if is_barrier_in kinds wait.at then slice_set rounds wait.at wait.round else rounds
+
+-- the wait is for a round of a barrier, in which the job has arrived
+pub record HasArrived (f : PlainFloor) (place : ℕ) (wait : JobWait) : Type 0 where
+  pub round : HasRound (slice_get f.kinds wait.at) wait.round
+  pub last : round_of f place wait.at ≤ wait.round + 1
+
+-- the job at a place has this wait by the step before its next one, and could make that again, with
+-- what it holds, if the wait were gone
+pub record IsBack (f : PlainFloor) (place : ℕ) (steps : List Step) (next : ℕ) (wait : JobWait)
+    : Type 0 where
+  pub some : 0 < next
+  pub below : next ≤ length steps
+  pub makeable : CanMake f.kinds (places_held f place) (row_back f.kinds (own_rounds f place) wait)
+      (drop (next - 1) steps)
+  pub rounds : (at : ℕ) → slice_index_or (row_back f.kinds (own_rounds f place) wait) at 0
+      ≡ count_by (is_arrival at) (take (next - 1) steps)
+  pub arrived : is_barrier_in f.kinds wait.at ≡ true → HasArrived f place wait
+
+-- of a job that is so far; one that doesn't wait has none
+abbrev pub IsBackIn : PlainFloor → ℕ → List Step → Progress → Type 0
+IsBackIn f place steps (Waiting next at round number) =
+    IsBack f place steps next (record { at = at; round = round; number = number })
+IsBackIn f place steps (Stepping next) = Unit {0}
+IsBackIn f place steps (Working next until) = Unit {0}
+IsBackIn f place steps (Ended end) = Unit {0}
+
 -- The floor has room for these steps of a job that has made those: for its takes, waits and
 -- arrivals; it is in the rounds that its arrivals say; and in each round to which it still comes
 -- somebody is to arrive.
@@ -106,3 +139,18 @@ HasRoomFor f place steps (Working next until) = HasRoom f place (take next steps
 HasRoomFor f place steps (Waiting next at round number) =
     HasRoom f place (take next steps) (drop next steps)
 HasRoomFor f place steps (Ended end) = Unit {0}
+
+-- once the wait of the job at a place is gone, the job can make the step again before its next one
+pub record CanRetry (f : PlainFloor) (place : ℕ) (steps : List Step) (next : ℕ) : Type 0 where
+  pub some : 0 < next
+  pub ready : IsReady (after_leave f place Gone) place None (drop (next - 1) steps)
+  pub room : HasRoom (after_leave f place Gone) place (take (next - 1) steps)
+      (drop (next - 1) steps)
+
+-- where it may, by its patience
+abbrev pub CanRetryIn : PlainFloor → Role → Patience → Progress → Type 0
+CanRetryIn f r patience (Waiting next at round number) =
+    may_retry r patience ≡ true → CanRetry f r.place r.job.steps next
+CanRetryIn f r patience (Stepping next) = Unit {0}
+CanRetryIn f r patience (Working next until) = Unit {0}
+CanRetryIn f r patience (Ended end) = Unit {0}

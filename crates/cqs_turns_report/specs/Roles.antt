@@ -8,7 +8,7 @@ use Rattle.cqs_plan.specs.declared.floors.answers.FloorLeave.{FloorLeave}
 use Rattle.cqs_plan.specs.declared.floors.answers.FloorLeave.TheVariants.{Gone, Late}
 use Rattle.cqs_turns_report.specs.declared.actors.Actor.{Actor}
 use Rattle.cqs_turns_report.specs.declared.lines.Told.{Told}
-use Rattle.cqs_turns_report.specs.declared.lines.Told.TheVariants.{Served}
+use Rattle.cqs_turns_report.specs.declared.lines.Told.TheVariants.{Retries, Served}
 use Rattle.cqs_turns_report.specs.declared.states.Progress.{Progress}
 use Rattle.cqs_turns_report.specs.Ready.{with_place}
 use Rattle.cqs_turns_report.specs.Turns.{Role, Scene, Made}
@@ -42,3 +42,7 @@ left_with resources held at (Late element) = with_place (is_holdable_at resource
 -- what a job tells that was served
 abbrev pub told_served : ℕ → ℕ → ℕ → ℕ → Told
 told_served at round number element = Served at round number element
+
+-- what a job tells that makes a step again
+abbrev pub told_retries : ℕ → ℕ → ℕ → Told
+told_retries at round number = Retries at round number

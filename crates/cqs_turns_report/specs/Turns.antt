@@ -1,5 +1,5 @@
 -- The turn machine on the plain floor, where each event has its line in the report.
-pub use Rattle.cqs_turns_report.specs.Machine.{Role, is_due, end_of, left_at, stop_or}
+pub use Rattle.cqs_turns_report.specs.Machine.{Role, is_due, is_outwaited, is_over_time, may_retry, retries, fresh, moved, retried, after_leave_at, after_look_at, end_of, left_at, stop_or}
 use Rattle.std.specs.Prelude.{ℕ, List, [], ◌++◌, Option, Some, None, map}
 use Rattle.cqs_plan.specs.declared.plans.resource.Resource.{Resource}
 use Rattle.cqs_plan.specs.declared.plans.step.Step.{Step}
@@ -19,6 +19,7 @@ use Rattle.cqs_plan.specs.Floor.{PlainFloor, holds_of, round_of, opening_floor}
 use Rattle.cqs_plan.specs.FloorCalls.{take_answer, after_take, give_answer, after_give, look_answer, after_look, leave_answer, after_leave, down_answer, after_down, wait_answer, after_wait, arrive_answer, after_arrive}
 use Rattle.cqs_turns_report.specs.declared.lines.Told.{Told}
 use Rattle.cqs_turns_report.specs.declared.lines.Told.TheVariants as told
+use Rattle.cqs_turns_report.specs.declared.states.Patience.{Patience}
 use Rattle.cqs_turns_report.specs.declared.states.Progress.{Progress}
 use Rattle.cqs_turns_report.specs.Lines.{line_text}
 use Rattle.cqs_turns_report.specs.Machine.{World, ActedIn, MadeIn, MachineIn}
@@ -88,6 +89,11 @@ abbrev pub on_leave : Role → ℕ → ℕ → ℕ → FloorLeave → Scene → 
 on_leave r at round number answer s =
     event r s (after_leave s.floor r.place answer) (leave_told at round number answer)
 
+-- its wait is gone, and it makes the step again
+abbrev pub on_retry : Role → ℕ → ℕ → ℕ → Scene → Scene
+on_retry r at round number s =
+    event r s (after_leave s.floor r.place leave.Gone) (told.Retries at round number)
+
 -- what a look leaves of the scene
 abbrev pub on_look : Role → ℕ → ℕ → ℕ → FloorLook → Scene → Scene
 on_look r at round number Pending s = s
@@ -132,6 +138,7 @@ plain_world = record {
   after_look = on_look;
   leave_answer = λ r s. leave_answer s.floor r.place;
   after_leave = on_leave;
+  after_retry = on_retry;
   done = λ r s. event r s s.floor told.Done;
   held = λ job s. places_held s.floor job;
 }
@@ -188,8 +195,19 @@ abbrev pub after_looking : Role → ℕ → ℕ → ℕ → ℕ → FloorLook �
 after_looking r next at round number answer s =
     machine.after_looking plain_world r next at round number answer s
 
-abbrev pub after_acting : Role → Progress → Scene → Acted
-after_acting r progress s = machine.after_acting plain_world r progress s
+abbrev pub after_retrying : Role → ℕ → ℕ → ℕ → ℕ → Scene → Acted
+after_retrying r next at round number s =
+    machine.after_retrying plain_world r next at round number s
+
+abbrev pub after_waiting_long : Role → Patience → ℕ → ℕ → ℕ → ℕ → FloorLeave → Scene → Acted
+after_waiting_long r patience next at round number answer s =
+    machine.after_waiting_long plain_world r patience next at round number answer s
+
+abbrev pub after_acting : Role → Patience → Progress → Scene → Acted
+after_acting r patience progress s = machine.after_acting plain_world r patience progress s
+
+abbrev pub patience_after : Role → Patience → Progress → Scene → Patience
+patience_after r patience progress s = machine.patience_after plain_world r patience progress s
 
 abbrev pub one_job : List Resource → ℕ → ℕ → Job → Machine → Machine
 one_job resources turn place job m = machine.one_job plain_world resources turn place job m
@@ -200,10 +218,13 @@ each_job resources turn place jobs m = machine.each_job plain_world resources tu
 abbrev pub one_turn : Plan → ℕ → Machine → Machine
 one_turn plan turn m = machine.one_turn plain_world plan turn m
 
+-- before the first turn: nothing has happened, and nothing was told
+abbrev pub opening_scene : Plan → Scene
+opening_scene plan = record { floor = opening_floor plan; text = [] }
+
 -- the machine after the first so many turns
 abbrev pub machine_after : Plan → ℕ → Machine
-machine_after plan turns =
-    machine.machine_after plain_world plan (record { floor = opening_floor plan; text = [] }) turns
+machine_after plan turns = machine.machine_after plain_world plan (opening_scene plan) turns
 
 -- the machine before the first turn: every job is at its first step
 abbrev pub opening_machine : Plan → Machine

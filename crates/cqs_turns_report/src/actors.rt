@@ -5,11 +5,12 @@ ghost use Rattle.cqs_turns_report.specs.Lines.{line_text};
 ghost use Rattle.std.specs.Prelude.{count_by, take};
 ghost use Rattle.cqs_plan.specs.Language.{can_hold};
 ghost use Rattle.cqs_plan.specs.PlanSteps.{is_arrival};
-ghost use Rattle.cqs_turns_report.specs.Roles.{is_holdable_at};
-ghost use Rattle.cqs_turns_report.specs.Turns.{take_told, give_told, leave_told, down_told, wait_told, arrive_told, is_due};
+ghost use Rattle.cqs_turns_report.specs.Roles.{is_holdable_at, role};
+ghost use Rattle.cqs_turns_report.specs.Turns.{take_told, give_told, leave_told, down_told, wait_told, arrive_told, is_due, is_outwaited, is_over_time, may_retry};
 
 use crate::lines::Told;
 use crate::reports::Report;
+use crate::states::Patience;
 use cqs_core::Memory;
 use cqs_plan::{FloorDown, FloorGive, FloorLeave, FloorTake, Job, Kind, Resource, Step};
 
@@ -41,6 +42,32 @@ impl Actor<'_> {
             Some(deadline) => deadline <= self.turn,
             None => false,
         }
+    }
+
+    /// The job, which waits, has waited for as many turns as it may.
+    fn is_outwaited(&self, patience: Patience) -> bool
+        ensures { result ≡ is_outwaited (role self.now) patience }
+    {
+        match self.job.within {
+            Some(within) => {
+                u64::from(patience.since) + u64::from(within) <= u64::from(self.turn)
+            }
+            None => false,
+        }
+    }
+
+    /// The job, which waits, is over time.
+    pub fn is_over_time(&self, patience: Patience) -> bool
+        ensures { result ≡ is_over_time (role self.now) patience }
+    {
+        self.is_due() || self.is_outwaited(patience)
+    }
+
+    /// The job has a retry left, and its deadline hasn't come.
+    pub fn may_retry(&self, patience: Patience) -> bool
+        ensures { result ≡ may_retry (role self.now) patience }
+    {
+        !self.is_due() && patience.used < self.job.retry
     }
 
     /// The resource at a place can be taken and given.

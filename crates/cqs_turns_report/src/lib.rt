@@ -16,4 +16,4 @@ pub use actors::{
 };
 pub use lines::Told;
 pub use reports::Report;
-pub use states::{End, JobState, Progress};
+pub use states::{End, JobState, Patience, Progress};

@@ -36,6 +36,12 @@ pub enum Told {
         round: u32,
         number: u64,
     },
+    /// It gave this wait up, and makes the step again at which it waited.
+    Retries {
+        at: u32,
+        round: u32,
+        number: u64,
+    },
     Late {
         at: u32,
         round: u32,

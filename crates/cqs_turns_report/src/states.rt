@@ -9,9 +9,9 @@ ghost use Rattle.cqs_turns_report.specs.Machine.{rests};
 pub enum End {
     /// It made all its steps.
     Done,
-    /// Its wait wasn't served by its deadline.
+    /// A wait of it wasn't served in time, and it had no retry left, or its deadline had come.
     GaveUp,
-    /// Its wait was served, but it looked only at its deadline.
+    /// A wait of it was served, but it looked only when its time was over.
     Late,
     /// A call of it was turned away. A floor of this crate's machine turns nobody away.
     Crowded,
@@ -38,10 +38,20 @@ pub enum Progress {
     Ended(End),
 }
 
+/// What the patience of a job rests on.
+#[derive(Clone, Copy)]
+pub struct Patience {
+    /// The turn in which it last moved: of a job that waits the one in which this wait began.
+    pub since: u32,
+    /// How many retries it has used up.
+    pub used: u32,
+}
+
 /// What the machine keeps of a job.
 #[derive(Drop)]
 pub struct JobState {
     pub progress: Progress,
+    pub patience: Patience,
     /// The places of what the job holds, oldest first: what it gives back at its end.
     pub held: Vec<u32>,
 }

@@ -192,6 +192,9 @@ fn push_told(line: &mut Vec<u8>, resources: &[Resource], told: Told) -> Result<(
         Told::GaveUp { at, round, number } => {
             push_wait(line, b"gaveup ", resources, at, round, number)
         }
+        Told::Retries { at, round, number } => {
+            push_wait(line, b"retries ", resources, at, round, number)
+        }
         Told::Late { at, round, number } => {
             push_wait(line, b"late ", resources, at, round, number)
         }

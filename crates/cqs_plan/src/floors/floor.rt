@@ -60,8 +60,8 @@ pub trait Floor {
         ensures after { plain self.new ≡ after_look (plain self.old) job result }
         ensures legal { IsLegalFloor (plain self.new) };
 
-    /// The job gives its wait up. A wait that was served before is late: what came
-    /// is the job's newest.
+    /// The job gives its wait up. An arrival is taken back with it: the job's next one there is in
+    /// the same round. A wait that was served before is late: what came is the job's newest.
     fn leave(&mut self, job: u32) -> FloorLeave
         requires job { IsJob (plain self.old) job }
         requires waits { IsWaiting (plain self.old) job }

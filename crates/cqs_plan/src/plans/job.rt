@@ -13,6 +13,10 @@ pub struct Job {
     pub steps: Steps,
     /// The turn from which on a wait that isn't served is given up.
     pub deadline: Option<u32>,
+    /// The most turns that each of its waits may last: 1 to 40,000.
+    pub within: Option<u32>,
+    /// How often, in all, it may begin a wait again that lasted too long: 0 to 64.
+    pub retry: u32,
 }
 
 /// The jobs of a plan, in the order in which each turn lets them act.

@@ -70,6 +70,8 @@ fn job(
         name,
         steps: Steps::from(steps),
         deadline,
+        within: None,
+        retry: 0,
     })
 }
 

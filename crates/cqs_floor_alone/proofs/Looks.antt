@@ -8,16 +8,16 @@ use Rattle.cqs_plan.specs.declared.floors.answers.FloorLook.TheVariants.{Pending
 use Rattle.cqs_plan.specs.declared.floors.answers.FloorLeave.{FloorLeave}
 use Rattle.cqs_plan.specs.declared.floors.answers.FloorLeave.TheVariants.{Gone, Late}
 use Rattle.cqs_plan.specs.FloorHistory.{Deed, Standing, gets, is_late, came_for}
-use Rattle.cqs_plan.specs.Floor.{PlainFloor, IsJob, IsWaiting, came_to as came_plain, size_of, wait_of, with_done_in, with_newest, with_wait as with_plain_wait}
+use Rattle.cqs_plan.specs.Floor.{PlainFloor, IsJob, IsWaiting, came_to as came_plain, rounds_back, size_of, wait_of, with_done_in, with_newest, with_wait as with_plain_wait}
 use Rattle.cqs_plan.specs.FloorCalls as plain
 use Rattle.cqs_floor_common.specs.Holdings.{elements_of, held_at}
 use Rattle.cqs_floor_alone_kinds.specs.declared.waits.Wait.{Wait}
 use Rattle.cqs_floor_alone.specs.DeskCalls.{CanEndWait, Leaves, Looks}
 use Rattle.cqs_floor_alone.specs.Kept.{IsKept, StandsIn, waiting_at}
-use Rattle.cqs_floor_alone.specs.Ledger.{Ledger, plain_floor, with_soles, with_wait, with_grant, holds_in, job_wait}
+use Rattle.cqs_floor_alone.specs.Ledger.{Ledger, plain_floor, rounds_of, with_back, with_soles, with_wait, with_grant, holds_in, job_wait}
 use Rattle.cqs_floor_alone_kinds.specs.Stores.{Store, Brings, GoesOn, Rests, is_in_line, stands_in}
 use Rattle.cqs_floor_alone_kinds.specs.Waits.{place_in}
-use Rattle.cqs_floor_alone.proofs.KeptNext.{kept-next, stands-on, histories-same}
+use Rattle.cqs_floor_alone.proofs.KeptNext.{kept-next, kept-rounds, stands-on, histories-same}
 use Rattle.cqs_floor_alone.proofs.Resources.{history-there, stands-there, wait-there}
 use Rattle.cqs_floor_alone.proofs.WaitOver.{some-waiting, fewer, kept-gone, kept-came, plain-gone, plain-came}
 
@@ -218,15 +218,18 @@ module _ {X : Type 0} (s : Store X) where
       let made = a.made _ _ _ _ (kept.funded.at wait.at a.sole a.there) (some-waiting s l job wait kept job_has)
       holder in
       let in_line = line-reads l job wait kept slot a.sole a.there true made.found in
-      let same : n ≡ with_soles (with_wait l job None) (set l.soles wait.at a.after) =
-      written ∙ ap (with_soles (with_wait l job None)) a.soles in
+      let rounds : List (List ℕ) = rounds_back l.kinds l.rounds job (job_wait wait) in
+      let same : n ≡ with_soles (with_back (with_wait l job None) job wait) (set l.soles wait.at a.after) =
+      written ∙ ap (with_soles (with_back (with_wait l job None) job wait)) a.soles in
       record {
         answers = rw (seen l job wait kept slot, in_line) refl;
         leaves = ap (plain_floor s) same
-            ∙ plain-gone s l job wait kept job_has a.sole a.after a.there made.keeps _ made.goes.done
+            ∙ ap (λ (g : PlainFloor). record g { rounds = rounds })
+            (plain-gone s l job wait kept job_has a.sole a.after a.there made.keeps _ made.goes.done)
             ∙ ap (plain.with_left (plain_floor s l) job) (sym (seen l job wait kept slot));
         kept = subst (IsKept s) (sym same)
-            (kept-gone s l job wait kept job_has a.sole a.after a.there made.keeps _ made.goes);
+            (kept-rounds s (with_soles (with_wait l job None) (set l.soles wait.at a.after)) rounds
+            (kept-gone s l job wait kept job_has a.sole a.after a.there made.keeps _ made.goes));
       }
   leave-well l n job (Late element) kept is_job (inl (wait, slot, a, written)) =
       let job_has = has l job wait kept slot in
@@ -279,6 +282,12 @@ module _ {X : Type 0} (s : Store X) where
   end-spare l f job view kept =
       subst (λ g. IsWaiting g job → 0 < l.spare) view
       (λ waiting. let w = wait-of l.waits job waiting in some-spare l job w.0 kept w.1)
+
+  -- and has a round at each resource
+  pub end-each : (l : Ledger X) (f : PlainFloor) (job : ℕ) → plain_floor s l ≡ f → IsJob f job
+      → length (rounds_of l job) ≡ length l.kinds
+  end-each l f job view =
+      subst (λ g. IsJob g job → length (rounds_of l job) ≡ length l.kinds) view (λ is_job. is_job.each)
 
   -- the same where the floor is seen as its plain floor
   pub look-floor : (l n : Ledger X) (f : PlainFloor) (job : ℕ) (answer : FloorLook) → plain_floor s l ≡ f

@@ -18,7 +18,7 @@ use Rattle.cqs_floor_alone_kinds.specs.declared.sole_resource.Looked.{Looked}
 use Rattle.cqs_floor_alone_kinds.specs.declared.sole_resource.Looked.TheVariants as looked
 use Rattle.cqs_floor_alone_kinds.specs.declared.sole_resource.Taken.TheVariants as taken
 use Rattle.cqs_floor_alone_kinds.specs.declared.waits.Wait.{Wait}
-use Rattle.cqs_floor_alone.specs.Ledger.{Ledger, round_in, wait_at, with_arrived, with_grant, with_less_room, with_soles, with_taken, with_transfer, with_wait, with_waiting}
+use Rattle.cqs_floor_alone.specs.Ledger.{Ledger, round_in, wait_at, with_arrived, with_back, with_grant, with_less_room, with_soles, with_taken, with_transfer, with_wait, with_waiting}
 use Rattle.cqs_floor_alone_kinds.specs.Stores.{Store, Acquires, Arrives, CanEnd, CanTell, Cancels, Counts, Polls, Releases, Tells}
 use Rattle.cqs_floor_alone_kinds.specs.Stores as store
 use Rattle.cqs_floor_alone_kinds.specs.Waits.{place_in}
@@ -112,9 +112,10 @@ module _ {X : Type 0} (s : Store X) where
       Asked old job (looked.Got element) new (λ wait. with_grant old job wait.at element)
       ⊎ ((element ≡ 0) × Asked old job looked.Through new (λ wait. with_wait old job None))
 
-  -- a leave of the job's wait, which is taken out
+  -- a leave of the job's wait, which is taken out; where it left an arrival is taken back with it
   abbrev pub Leaves : Ledger X → ℕ → FloorLeave → Ledger X → Type 0
-  Leaves old job Gone new = AskedToLeave old job left.Gone new (λ wait. with_wait old job None)
+  Leaves old job Gone new =
+      AskedToLeave old job left.Gone new (λ wait. with_back (with_wait old job None) job wait)
   Leaves old job (Late element) new =
       AskedToLeave old job (left.Late element) new (λ wait. with_grant old job wait.at element)
       ⊎ ((element ≡ 0) × AskedToLeave old job left.Through new (λ wait. with_wait old job None))

@@ -4,7 +4,7 @@ use Rattle.std.specs.Option.{option_map}
 use Rattle.std.specs.List.{fold}
 use Rattle.cqs_core.specs.Keyed.{without}
 use Rattle.cqs_plan.specs.declared.plans.kind.Kind.{Kind}
-use Rattle.cqs_plan.specs.Floor.{PlainFloor, JobWait, Holding}
+use Rattle.cqs_plan.specs.Floor.{PlainFloor, JobWait, Holding, rounds_back}
 use Rattle.cqs_rule_laws.specs.declared.config.Place.{Place}
 use Rattle.cqs_floor_alone.specs.declared.transfers.Transfer.{Transfer}
 use Rattle.cqs_floor_alone.specs.declared.transfers.Transfer.TheVariants.{Got, GaveBack}
@@ -17,7 +17,7 @@ pub record Ledger (X : Type 0) : Type 0 where
   pub kinds : List Kind
   -- what each resource is kept as
   pub soles : List X
-  -- for each resource for how many takes, waits and arrivals it has room
+  -- for each resource how often it has room for a job that begins to wait
   pub room : List ℕ
   -- for each job its wait
   pub waits : List (Option Wait)
@@ -95,6 +95,11 @@ module _ {X : Type 0} where
   -- the job arrived at a resource once more
   abbrev pub with_arrived : Ledger X → ℕ → ℕ → Ledger X
   with_arrived l job at = record l { rounds = with_arrival l.rounds job at }
+
+  -- the job took the arrival back that this wait is, if it is one
+  abbrev pub with_back : Ledger X → ℕ → Wait → Ledger X
+  with_back l job wait =
+      record l { rounds = rounds_back l.kinds l.rounds job (job_wait wait) }
 
   -- one take, wait or arrival less has room
   abbrev pub with_less_room : Ledger X → ℕ → Ledger X

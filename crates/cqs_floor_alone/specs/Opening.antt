@@ -11,7 +11,7 @@ use Rattle.cqs_floor_alone.specs.Ledger.{Ledger}
 use Rattle.cqs_floor_alone_kinds.specs.Stores.{Store, IsOpened}
 
 module _ {X : Type 0} (s : Store X) where
-  -- something for each of the first resources, with room for so many takes, waits and arrivals
+  -- something for each of the first resources, with room for jobs that begin to wait so often
   pub record AreOpened (resources : List Resource) (room : List ℕ) (soles : List X) : Type 0 where
     pub each : (at : ℕ) (resource : Resource) (sole : X) → slice_get resources at ≡ Some resource
         → slice_get soles at ≡ Some sole

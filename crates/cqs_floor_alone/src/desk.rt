@@ -38,11 +38,13 @@ ghost use Rattle.cqs_floor_alone_kinds.specs.Waits.{place_in, slot_wait};
 
 use crate::transfers::Transfer;
 use cqs_floor_alone_kinds::{Left, Looked, SoleResource, Taken, Wait, WaitSlot};
+use cqs_floor_common::take_back;
 use cqs_plan::{FloorDown, FloorEnd, FloorGive, FloorLeave, FloorLook, FloorTake, Kind};
 use std::marker::Model;
 
 /// For each resource what it is, what it is kept as, and its room; for each job its wait, and how
-/// often it arrived at each resource; and what the jobs got and gave back.
+/// often it arrived at each resource and didn't take that back; and what the jobs got and gave
+/// back.
 #[derive(Drop)]
 pub struct Desk<S: SoleResource> {
     pub kinds: Vec<Kind>,
@@ -192,17 +194,23 @@ impl<S: SoleResource> Desk<S> {
         }
     }
 
-    /// The job gives its wait up: it leaves the line, where the wait still stands there.
+    /// The job gives its wait up: it leaves the line, where the wait still stands there, and takes
+    /// an arrival back.
     pub fn leave(&mut self, job: u32) -> FloorLeave
         requires wait { CanEndWait S.store self.old job }
         requires spare { 0 < self.old.spare }
+        requires own { job < length self.old.rounds }
+        requires each { length (rounds_of self.old job) ≡ length self.old.kinds }
         ensures { Leaves S.store self.old job result self.new }
     {
         let wait = self.wait_of(job);
         take_out_wait(&mut self.waits, job);
         let at = wait.at;
         match self.soles[at as usize].leave(job, wait.round, wait.place()) {
-            Left::Gone => FloorLeave::Gone,
+            Left::Gone => {
+                take_back(self.kinds.as_slice(), &mut self.rounds, job, at, wait.round);
+                FloorLeave::Gone
+            }
             Left::Late(element) => {
                 self.transfers
                     .push_reserved(Transfer::Got { job, at, element });

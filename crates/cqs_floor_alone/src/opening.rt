@@ -1,7 +1,7 @@
 //! The making of a desk: its resources, and the memory for all that the steps of a plan can lead
 //! to.
 
-ghost use Rattle.std.specs.Prelude.{◌≡◌, ◌*◌, ◌<◌, ◌≤◌, IfOk, length, map, replicate, sum, None};
+ghost use Rattle.std.specs.Prelude.{◌≡◌, ℕ, ◌*◌, ◌<◌, ◌≤◌, IfOk, length, map, replicate, slice_index, sum, None};
 ghost use Rattle.cqs_plan.specs.Runnable.{IsRunnable, kinds_of};
 ghost use Rattle.cqs_floor_alone.specs.Opening.{AreOpened, AreSized, IsOpening};
 ghost use Rattle.cqs_floor_alone_kinds.specs.Waits.{slot_wait};
@@ -45,9 +45,9 @@ fn kinds(alloc: Global, resources: &[Resource]) -> Result<Vec<Kind>, AllocError>
         .collect(alloc)
 }
 
-/// How many takes, waits and arrivals there are at all resources together.
+/// How often the jobs may begin to wait at all resources together.
 fn total(room: &[u32]) -> usize
-    requires { sum room.now ≤ 262144 }
+    requires { sum room.now ≤ 33554432 }
     ensures { result ≡ sum room.now }
 {
     room.iter().map(|here| *here as usize).sum()
@@ -84,7 +84,7 @@ fn open_soles<S: ForEachKind>(
 ) -> Result<Vec<S>, Memory>
     requires sized { AreSized resources.now }
     requires same { length room.now ≡ length resources.now }
-    requires few { sum room.now ≤ 262144 }
+    requires few { (at : ℕ) → slice_index room.now at ≤ 524288 }
     ensures opened { IfOk result (λ soles. AreOpened S.store resources.now room.now soles.items) }
     ensures long { IfOk result (λ soles. length soles.items ≡ length resources.now) }
 {

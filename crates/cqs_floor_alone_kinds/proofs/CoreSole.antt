@@ -62,7 +62,7 @@ sole-opened permits some few = record {
 }
 
 pub core-opened : (kind : Option Kind) (takes : ℕ) (x : Room) → 0 < size_of kind → size_of kind ≤ 1048576
-    → takes ≤ 262144 → x.shape ≡ opening_shape (size_of kind) 1 → 9 * takes ≤ x.spare → IsOpened sole_core kind takes x
+    → takes ≤ 524288 → x.shape ≡ opening_shape (size_of kind) 1 → 9 * takes ≤ x.spare → IsOpened sole_core kind takes x
 core-opened kind takes x some few few_takes opens spare =
     let suspends : x.shape.queue.suspends ≡ 0 = ap (λ (s : Shape). s.queue.suspends) opens in
     record {

@@ -375,7 +375,7 @@ latch-tells x kind room waiting held funded =
     )
 
 -- as it is made
-pub latch-opened : (x : LatchSole) (count room : ℕ) → room ≤ 262144 → 0 < count
+pub latch-opened : (x : LatchSole) (count room : ℕ) → room ≤ 524288 → 0 < count
     → limit_of x.latch.queue ≡ room + 1 → IsMine x.latch x.pass → mode_of (client_of x.latch.queue) ≡ Smart
     → count_of (client_of x.latch.queue) ≡ count
     → (pass_view x.pass).number ≡ 0 → (pass_view x.pass).seen ≡ [] → (pass_view x.pass).alone ≡ true

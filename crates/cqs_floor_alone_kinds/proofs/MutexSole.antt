@@ -48,7 +48,7 @@ pub mutex-lawful : IsLawful sole_mutex
 mutex-lawful = one-lawful mutex_pass (λ x belongs. belongs.mine.live.legal)
 
 -- a mutex as it is made
-pub mutex_opened : (x : MutexSole) (takes : ℕ) (config : Config) → takes ≤ 262144 → config.limit ≡ takes + 1
+pub mutex_opened : (x : MutexSole) (takes : ℕ) (config : Config) → takes ≤ 524288 → config.limit ≡ takes + 1
     → Belongs x.mutex x.pass → Opens tt config x.mutex x.pass → x.guards.items ≡ [] → takes ≤ vec_capacity x.guards
     → IsOpened sole_mutex (Some kind.Mutex) takes x
 mutex_opened x takes config few is belongs opens none space =

@@ -152,7 +152,7 @@ held-replicate (suc jobs) zero = refl
 held-replicate (suc jobs) (suc j) = held-replicate jobs j
 
 -- as it is made
-pub pool_opened : (x : PoolSole) (elements room : ℕ) → room ≤ 262144 → elements ≤ 4096
+pub pool_opened : (x : PoolSole) (elements room : ℕ) → room ≤ 524288 → elements ≤ 4096
     → limit_of x.pool.queue ≡ room + 1 → IsMine x.pool x.pass → pool_size x.pool ≡ elements
     → (pass_view x.pass).number ≡ 0 → (pass_view x.pass).seen ≡ [] → (pass_view x.pass).alone ≡ true
     → Rests (pass_view x.pass) [] [] (pass_view x.pass) → x.held.items ≡ [] → room ≤ vec_capacity x.held

@@ -34,7 +34,7 @@ impl LatchSole {
     pub fn open(alloc: Global, count: u32, waits: u32) -> Result<Self, Memory>
         requires some { 0 < count }
         requires few { count ≤ 1048576 }
-        requires few_waits { waits ≤ 262144 }
+        requires few_waits { waits ≤ 524288 }
         ensures { IfOk result (IsOpened store_latch (kind.Latch count) waits) }
     {
         let config = Config {

@@ -33,7 +33,7 @@ impl MutexSole {
     /// A mutex that is free, with room for so many takes.
     #[tactic(auto, using(crate::proofs::MutexSole::mutex_opened))]
     pub fn open(alloc: Global, takes: u32) -> Result<Self, Memory>
-        requires few_takes { takes ≤ 262144 }
+        requires few_takes { takes ≤ 524288 }
         ensures { IfOk result (IsOpened sole_mutex (Some kind.Mutex) takes) }
     {
         let config = Config {

@@ -39,7 +39,7 @@ impl PoolSole {
     pub fn open(alloc: Global, elements: u32, takes: u32) -> Result<Self, Memory>
         requires some { 0 < elements }
         requires few { elements ≤ 4096 }
-        requires few_takes { takes ≤ 262144 }
+        requires few_takes { takes ≤ 524288 }
         ensures { IfOk result (IsOpened store_pool (kind.Pool elements) takes) }
     {
         let config = Config {

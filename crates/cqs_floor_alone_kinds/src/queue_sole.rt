@@ -32,7 +32,7 @@ impl QueueSole {
     pub fn open(alloc: Global, permits: u32, takes: u32) -> Result<Self, Memory>
         requires some { 0 < permits }
         requires few { permits ≤ 1048576 }
-        requires few_takes { takes ≤ 262144 }
+        requires few_takes { takes ≤ 524288 }
         ensures { IfOk result (IsOpened sole_queue (Some (kind.Semaphore permits)) takes) }
     {
         let config = Config {

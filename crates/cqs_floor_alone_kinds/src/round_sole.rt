@@ -25,7 +25,7 @@ impl RoundSole {
     pub fn open(alloc: Global, parties: u32, arrivals: u32) -> Result<Self, Memory>
         requires some { 0 < parties }
         requires few { parties ≤ 32 }
-        requires few_arrivals { arrivals ≤ 262144 }
+        requires few_arrivals { arrivals ≤ 524288 }
         ensures { IfOk result (IsOpenedRound parties arrivals) }
     {
         let config = Config {

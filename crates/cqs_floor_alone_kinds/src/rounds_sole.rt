@@ -26,7 +26,7 @@ impl RoundsSole {
         requires some { 0 < parties }
         requires few { parties ≤ 32 }
         requires few_rounds { rounds ≤ 64 }
-        requires few_arrivals { arrivals ≤ 262144 }
+        requires few_arrivals { arrivals ≤ 524288 }
         ensures { IfOk result (IsOpened store_rounds (kind.Rounds parties rounds) arrivals) }
     {
         let mut made = Vec::with_capacity(alloc, rounds as usize)?;

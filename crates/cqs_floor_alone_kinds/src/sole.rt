@@ -108,6 +108,6 @@ pub trait ForPermits: SoleSemaphore {
     fn open(alloc: Global, kind: Kind, takes: u32) -> Result<Self, Memory>
         requires permits { IsOfPermits (Some kind) }
         requires sized { IsKind kind }
-        requires few_takes { takes ≤ 262144 }
+        requires few_takes { takes ≤ 524288 }
         ensures { IfOk result (IsOpened Self.sole (Some kind) takes) };
 }

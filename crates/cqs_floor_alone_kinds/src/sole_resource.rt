@@ -117,6 +117,6 @@ pub trait ForEachKind: SoleResource {
     /// arrivals.
     fn open(alloc: Global, kind: Kind, room: u32) -> Result<Self, Memory>
         requires sized { IsKind kind }
-        requires few { room ≤ 262144 }
+        requires few { room ≤ 524288 }
         ensures { IfOk result (IsOpened Self.store kind room) };
 }

@@ -125,6 +125,6 @@ pub trait ForEachKind: SharedResource {
         requires sized { IsKind kind }
         requires some { 1 ≤ workers }
         requires few_workers { workers ≤ 16 }
-        requires few { room ≤ 262144 }
+        requires few { room ≤ 524288 }
         ensures { IfOk result (IsOpened Self.share kind workers room) };
 }

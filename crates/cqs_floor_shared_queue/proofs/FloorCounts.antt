@@ -1,6 +1,7 @@
 -- Opening the resources of a plan for several workers; and no job counts where there is no resource.
-use Rattle.std.proofs.Common.{◌≡◌, ◌⊎◌, inl, inr, ℕ, suc, ne_eqb, ◌+◌, ◌<◌, ◌≤◌, false, List, [], ◌∷◌, ◌++◌, Some, length, get_or, slice_get, count_by, refl, ap, sym, ◌∙◌, arith}
+use Rattle.std.proofs.Common.{◌≡◌, ◌⊎◌, inl, inr, ℕ, suc, ne_eqb, ◌+◌, ◌<◌, ◌≤◌, Bool, false, ◌||◌, if◌then◌else◌, List, [], ◌∷◌, ◌++◌, Some, length, get_or, slice_get, count_by, refl, ap, sym, ◌∙◌, arith}
 use Rattle.std.specs.Prelude.{slice_index}
+use Rattle.std.specs.List.{list_any}
 use Rattle.std.proofs.lemmas.Bool.{cases_lt}
 use Rattle.std.proofs.lemmas.List.{length_push}
 use Rattle.std.proofs.lemmas.List.Sums.{sum_by-cons}
@@ -12,6 +13,7 @@ use Rattle.cqs_plan.specs.declared.plans.plan.Plan.{Plan}
 use Rattle.cqs_plan.specs.declared.plans.resource.Resource.{Resource}
 use Rattle.cqs_plan.specs.declared.plans.step.Step.{Step}
 use Rattle.cqs_plan.specs.declared.plans.step.Step.TheVariants as step
+use Rattle.cqs_plan.specs.Floor.{times_at, waits_of_job}
 use Rattle.cqs_plan.specs.PlanSteps.{may_wait}
 use Rattle.cqs_plan.specs.Runnable.{IsRunnable}
 use Rattle.cqs_floor_common.specs.Room.{IsCountable, IsWithin, room_of}
@@ -66,6 +68,14 @@ steps-past resources at (q ∷ steps) within past =
     let all = sum_by-cons (λ (p : Step). bit (may_wait at p)) q steps in
     omega (arith, rest, here, all)
 
+any-past : (resources at : ℕ) (steps : List Step)
+    → ((n : ℕ) (q : Step) → slice_get steps n ≡ Some q → IsWithin resources q)
+    → resources ≤ at → list_any (may_wait at) steps ≡ false
+any-past resources at [] within past = refl
+any-past resources at (q ∷ steps) within past =
+    ap (λ b. b || list_any (may_wait at) steps) (step-past resources at q (within 0 q refl) past)
+    ∙ any-past resources at steps (λ n p got. within (suc n) p got) past
+
 jobs-past : (resources at : ℕ) (jobs : List Job)
     → ((n : ℕ) (job : Job) → slice_get jobs n ≡ Some job → IsCountable resources job)
     → resources ≤ at → room_of jobs at ≡ 0
@@ -73,8 +83,11 @@ jobs-past resources at [] countable past = refl
 jobs-past resources at (job ∷ jobs) countable past =
     let rest = jobs-past resources at jobs (λ n j got. countable (suc n) j got) past in
     let here = steps-past resources at job.steps (countable 0 job refl).within.at past in
-    let all = sum_by-cons (λ (j : Job). count_by (may_wait at) j.steps) job jobs in
-    omega (arith, rest, here, all)
+    let none : times_at at job job.retry ≡ 0 =
+    ap (λ (b : Bool). if b then job.retry else 0)
+    (any-past resources at job.steps (countable 0 job refl).within.at past) in
+    let all = sum_by-cons (waits_of_job at) job jobs in
+    omega (arith, rest, here, none, all)
 
 pub room-past : (plan : Plan) → IsRunnable plan → (at : ℕ) → length plan.resources ≤ at → room_of plan.jobs at ≡ 0
 room-past plan runnable at past =

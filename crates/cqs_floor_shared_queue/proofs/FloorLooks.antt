@@ -9,7 +9,7 @@ use Rattle.cqs_plan.specs.declared.floors.answers.FloorLook.{FloorLook}
 use Rattle.cqs_plan.specs.declared.floors.answers.FloorLook.TheVariants.{Pending, Granted}
 use Rattle.cqs_plan.specs.declared.plans.kind.Kind.{Kind}
 use Rattle.cqs_plan.specs.declared.plans.kind.Kind.TheVariants as kind
-use Rattle.cqs_plan.specs.Floor.{IsJob, IsWaiting}
+use Rattle.cqs_plan.specs.Floor.{PlainFloor, IsJob, IsWaiting, rounds_back}
 use Rattle.cqs_plan.specs.FloorCalls.{with_granted, with_left}
 use Rattle.cqs_plan.specs.FloorHistory.{gets, is_late}
 use Rattle.cqs_plan.specs.Language.{can_hold}
@@ -23,7 +23,7 @@ use Rattle.cqs_floor_shared_queue.specs.declared.floors.spots.Spot.{Spot}
 use Rattle.cqs_floor_shared_queue.specs.DeskCalls.{CanEndWait, HasAt, Leaves, Looks}
 use Rattle.cqs_floor_shared_queue.specs.FloorKept.{IsFundedAt, IsKept, StandsIn, funds_in}
 use Rattle.cqs_floor_shared_queue.specs.Holdings.{and_brought}
-use Rattle.cqs_floor_shared_queue.specs.Ledgers.{Ledger, shared_in, with_grant, with_shares}
+use Rattle.cqs_floor_shared_queue.specs.Ledgers.{Ledger, shared_in, with_back, with_grant, with_shares}
 use Rattle.cqs_floor_shared_kinds.specs.ShareCalls as calls
 use Rattle.cqs_floor_shared_kinds.specs.ShareCalls.{parties_left, party_more}
 use Rattle.cqs_floor_shared_kinds.specs.Shares.{Funds, IsLawful, IsSame, KeepsOthers, Sees, Share, with_brought, with_came, with_wait}
@@ -32,6 +32,7 @@ use Rattle.cqs_floor_shared_kinds.proofs.Elements.{no-element}
 use Rattle.cqs_floor_shared_queue.proofs.FloorCrews.{space-within}
 use Rattle.cqs_floor_shared_queue.proofs.FloorLists.{index-mapped, map-kept}
 use Rattle.cqs_floor_shared_queue.proofs.FloorNext.{kept-next, next, parties-kept, sees-next, stands-on}
+use Rattle.cqs_floor_shared_queue.proofs.RoundsBack.{back-each, back-long, kept-rounds}
 use Rattle.cqs_floor_shared_queue.proofs.FloorOver as over
 use Rattle.cqs_floor_shared_queue.proofs.FloorPlaces.{Here, Well, funds-long, here, job-there}
 use Rattle.cqs_floor_shared_queue.proofs.QuietCalls.{late-parties, quiet-leave, quiet-look, quiet-none, quiet-own, quiet-same, quiet-words}
@@ -177,6 +178,13 @@ module _ {X : Type 0} (s : Share X) (l : Ledger X) (job : ℕ) (kept : IsKept s 
     abbrev pub gone : Ledger X
     gone = next s l w.at x y there l.room gone_spots l.holdings l.rounds
 
+    -- the rounds of the jobs where an arrival was taken back
+    abbrev back_rounds : List (List ℕ)
+    back_rounds = rounds_back l.kinds l.rounds job (job_wait w)
+
+    abbrev pub gone_back : Ledger X
+    gone_back = next s l w.at x y there l.room gone_spots l.holdings back_rounds
+
     abbrev pub brought : ℕ → Ledger X
     brought element = next s l w.at x y there l.room gone_spots (and_brought k l.holdings w.at job element) l.rounds
 
@@ -234,24 +242,27 @@ module _ {X : Type 0} (s : Share X) (l : Ledger X) (job : ℕ) (kept : IsKept s 
         ∙ ap (λ o. floor.parties_left_at o (shared_in s l) (job_wait w)) (sym it)
 
     pub leave-goes : calls.EndsWait s a w.round (place_in w) Gone a x y
-        → Well s (HasLeft (shared_in s l) job Gone) gone
+        → Well s (HasLeft (shared_in s l) job Gone) gone_back
     leave-goes made =
         let keeps = others made.keeps in
         record {
-          kept = over.kept-gone s l job w false was kept x y there k is made.sees.same keeps made.funded;
+          kept = kept-rounds s gone back_rounds (back-long l.kinds l.rounds job (job_wait w))
+              (back-each l.kinds l.rounds job (job_wait w))
+              (over.kept-gone s l job w false was kept x y there k is made.sees.same keeps made.funded);
           does = record {
             at = λ wait got.
                 let found : Some (job_wait w) ≡ Some wait = sym (over.wait-seen s l job w false was kept) ∙ got in
                 let one : job_wait w ≡ wait = cc in
-                subst (λ v. floor.Leaves (shared_in s l) job v Gone (shared_in s gone)) one
+                subst (λ v. floor.Leaves (shared_in s l) job v Gone (shared_in s gone_back)) one
                 (record {
                   stays = made.stays;
-                  sees = sees-next s l w.at x y there l.room gone_spots l.holdings l.rounds k is funded_at
+                  sees = sees-next s l w.at x y there l.room gone_spots l.holdings back_rounds k is funded_at
                       (over.same-long s l job w false was kept) _
                       (subst (λ es. Sees s k x es y)
                       (λ i. unless_came (sym not_came i)
                       (leave_entries (sym is i) w.round (funded_at.number i) w.index Gone made.stays)) made.sees);
-                  board = over.board-gone s l job w false was kept x y there k is made.sees.same keeps
+                  board = ap (λ (b : PlainFloor). record b { rounds = back_rounds })
+                      (over.board-gone s l job w false was kept x y there k is made.sees.same keeps)
                       ∙ ap (λ o. with_left (shared_in s l).board job o)
                       (sym (over.wait-seen s l job w false was kept));
                   parties = left-parties k is made.parties_are;
@@ -471,8 +482,9 @@ module _ {X : Type 0} (s : Share X) (l : Ledger X) (job : ℕ) (kept : IsKept s 
       let k = get-there l.kinds w.at (kept.placed job (spot_in w) w d.is refl) in
       let made = d.calls.made (over.left_funds s l job w false d.is kept k.0)
       (its-funds w d.is x y d.calls.there k.0 k.1) (its-job w d.is x y d.calls.there k.0 k.1) in
-      let same : n ≡ gone w d.is x y d.calls.there k.0 k.1 =
-      d.writes ∙ (λ i. with_shares (over.writes-over s l job w false d.is kept i) (d.calls.shares i)) in
+      let same : n ≡ gone_back w d.is x y d.calls.there k.0 k.1 =
+      d.writes
+      ∙ (λ i. with_shares (with_back (over.writes-over s l job w false d.is kept i) job w) (d.calls.shares i)) in
       subst (Well s (HasLeft (shared_in s l) job Gone)) (sym same)
       (leave-goes w d.is x y d.calls.there k.0 k.1 made)
   leave-well lawful n (Late element) (inl d) =

@@ -189,7 +189,7 @@ module _ {X : Type 0} (s : Share X) (l given : Ledger X) (kept : IsKept s l) (th
     };
     rooms = omega (arith, kept.rooms, their.rooms, kinds-long);
     few = λ at.
-        let most = mul-le l.budget l.floors 262144 16 kept.few kept.few_floors in
+        let most = mul-le l.budget l.floors 33554432 16 kept.few kept.few_floors in
         omega (arith, both-space, most, index-few l.room at, index-few given.room at);
     jobs = omega (arith, kept.jobs, their.jobs, same-jobs);
     each_round = λ job. go job (cases_lt job (length l.rounds));

@@ -71,7 +71,7 @@ module _ {X : Type 0} (s : Share X) (plan : Plan) (workers worker : ℕ) (least 
     (fresh : AreFresh s plan.resources workers worker least shares) (sized : AreSized plan.resources)
     (low : worker < workers) (few : workers ≤ 16) (budget space seats : ℕ)
     (enough : sum (map (room_of plan.jobs) (range_with_len 0 (length plan.resources))) ≡ budget)
-    (small : budget ≤ 262144) (roomy : budget * workers ≤ space) (seated : workers ≤ seats) where
+    (small : budget ≤ 33554432) (roomy : budget * workers ≤ space) (seated : workers ≤ seats) where
   abbrev jobs : ℕ
   jobs = length plan.jobs
 

@@ -14,7 +14,7 @@ use Rattle.cqs_plan.specs.declared.plans.kind.Kind.TheVariants as kind
 use Rattle.cqs_plan.specs.declared.plans.step.Step.{Step}
 use Rattle.cqs_plan.specs.declared.plans.step.Step.TheVariants as step
 use Rattle.cqs_plan.specs.Arriving.{arrives, rounds_of}
-use Rattle.cqs_plan.specs.Floor.{HasRound, PlainFloor, round_of}
+use Rattle.cqs_plan.specs.Floor.{HasRound, PlainFloor, round_of, waits_of_job}
 use Rattle.cqs_plan.specs.PlanSteps.{is_arrival, may_wait}
 use Rattle.cqs_plan.specs.Runnable.{AreMakeable}
 use Rattle.cqs_turns_report.specs.declared.states.End.TheVariants as end
@@ -44,7 +44,7 @@ room-enough workers worker at place (job ∷ jobs) =
     let here : room_needed at place job (starting workers worker place) ≤ count_by (may_wait at) job.steps =
     starts workers worker place (λ p. room_needed at place job p ≤ count_by (may_wait at) job.steps)
     (omega arith) (omega arith) in
-    let all = sum_by-cons (λ (j : Job). count_by (may_wait at) j.steps) job jobs in
+    let all = sum_by-cons (waits_of_job at) job jobs in
     omega (arith, rest, here, all)
 
 -- who doesn't arrive has no arrival

@@ -8,6 +8,7 @@ pub mod FloorTakes
 pub mod FloorGives
 pub mod FloorOver
 pub mod QuietCalls
+pub mod RoundsBack
 pub mod FloorLooks
 pub mod FloorCrews
 pub mod FloorEnds

@@ -15,7 +15,7 @@ use Rattle.cqs_floor_shared_queue.specs.declared.floors.holdings.JobHolding.{Job
 use Rattle.cqs_floor_shared_queue.specs.declared.floors.spots.FloorWait.{FloorWait}
 use Rattle.cqs_floor_shared_kinds.specs.declared.resource.Came.{Came}
 use Rattle.cqs_floor_shared_queue.specs.Holdings.{and_taken, less_oldest}
-use Rattle.cqs_floor_shared_queue.specs.Ledgers.{Ledger, and_arrived, round_in, with_come, with_grant, with_shares, without_wait}
+use Rattle.cqs_floor_shared_queue.specs.Ledgers.{Ledger, and_arrived, round_in, with_back, with_come, with_grant, with_shares, without_wait}
 use Rattle.cqs_floor_shared_kinds.specs.Shares.{Share}
 use Rattle.cqs_floor_shared_kinds.specs.ShareCalls as calls
 use Rattle.cqs_floor_shared_queue.specs.Spots.{answer_for, place_in, spot_came, spot_in}
@@ -107,7 +107,7 @@ module _ {X : Type 0} (s : Share X) where
   abbrev pub Leaves : Ledger X → ℕ → FloorLeave → Ledger X → Type 0
   Leaves old job Gone new =
       Asked (λ w x y. calls.Leaves s job x w.round (place_in w) Gone y) old job
-      (λ w. without_wait old job) new
+      (λ w. with_back (without_wait old job) job w) new
   Leaves old job (Late element) new =
       Finds old job element new
       ⊎ Asked (λ w x y. calls.Leaves s job x w.round (place_in w) (Late element) y) old job

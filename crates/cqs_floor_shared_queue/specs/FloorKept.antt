@@ -70,7 +70,7 @@ module _ {X : Type 0} where
       pub distinct : IsDistinct (l.number ∷ l.met)
       pub below : (n : ℕ) → Has n (l.number ∷ l.met) → n < l.floors
       pub few_floors : l.floors ≤ 16
-      pub few : l.budget ≤ 262144
+      pub few : l.budget ≤ 33554432
       pub within : holdings_to_come l ≤ l.budget * suc (length l.met)
       pub space : l.budget * l.floors ≤ l.space
       pub seats : l.floors ≤ l.seats

@@ -3,9 +3,10 @@ use Rattle.std.specs.Prelude.{ℕ, ◌+◌, ◌-◌, List, [], ◌∷◌, length
 use Rattle.std.specs.Option.{option_map, option_map_or}
 use Rattle.cqs_plan.specs.declared.plans.kind.Kind.{Kind}
 use Rattle.cqs_plan.specs.declared.plans.kind.Kind.TheVariants as kind
-use Rattle.cqs_plan.specs.Floor.{Holding}
+use Rattle.cqs_plan.specs.Floor.{Holding, rounds_back}
 use Rattle.cqs_floor_shared.specs.Shared.{Shared}
 use Rattle.cqs_floor_shared_queue.specs.declared.floors.holdings.JobHolding.{JobHolding}
+use Rattle.cqs_floor_shared_queue.specs.declared.floors.spots.FloorWait.{FloorWait}
 use Rattle.cqs_floor_shared_queue.specs.declared.floors.spots.Spot.{Spot}
 use Rattle.cqs_floor_shared_kinds.specs.declared.resource.Came.{Came}
 use Rattle.cqs_floor_shared_kinds.specs.declared.resource.Came.TheVariants as came
@@ -18,11 +19,11 @@ pub record Ledger (X : Type 0) : Type 0 where
   pub kinds : List Kind
   -- what each resource is kept as
   pub shares : List X
-  -- for each resource for how many takes, waits and arrivals it has room
+  -- for each resource how often it has room for a job that begins to wait
   pub room : List ℕ
   -- for each job where it stands
   pub spots : List Spot
-  -- for each job how often it arrived at each resource
+  -- for each job how often it arrived at each resource and didn't take that back
   pub rounds : List (List ℕ)
   -- what the jobs hold, oldest first
   pub holdings : List JobHolding
@@ -123,6 +124,11 @@ module _ {X : Type 0} where
   abbrev pub without_wait : Ledger X → ℕ → Ledger X
   without_wait l job =
       record l { spots = slice_set l.spots job (spot_over (spot_of l job)) }
+
+  -- and takes an arrival back that this was
+  abbrev pub with_back : Ledger X → ℕ → FloorWait → Ledger X
+  with_back l job wait =
+      record l { rounds = rounds_back l.kinds l.rounds job (job_wait wait) }
 
   -- and it has what came
   abbrev pub with_grant : Ledger X → ℕ → ℕ → ℕ → Ledger X

@@ -15,7 +15,7 @@ use Rattle.cqs_floor_shared_kinds.specs.Shares.{Share}
 use Rattle.cqs_floor_shared_kinds.specs.ShareCalls.{CanSplit, HasSplit, IsOpened, no_funds}
 use Rattle.cqs_floor_shared_queue.specs.Spots.{no_spot}
 
--- these limits are one more at each resource than the plan has takes, waits and arrivals there
+-- these limits are one more at each resource than the jobs may begin to wait there
 pub record AreLimits (plan : Plan) (limits : List ℕ) : Type 0 where
   pub at : (at : ℕ) → at < length plan.resources
       → slice_index limits at ≡ room_of plan.jobs at + 1
@@ -106,6 +106,6 @@ pub record IsMade {X : Type 0} (plan : Plan) (workers worker : ℕ) (xs : List X
   pub met : l.met ≡ []
   pub floors : l.floors ≡ workers
   pub budget : l.budget ≡ sum l.room
-  pub few : l.budget ≤ 262144
+  pub few : l.budget ≤ 33554432
   pub space : l.budget * workers ≤ l.space
   pub seats : workers ≤ l.seats

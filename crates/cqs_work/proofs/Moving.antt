@@ -1,7 +1,7 @@
 -- What a call changes for its job alone, and what it leaves of what the jobs need.
-use Rattle.std.proofs.Common.{◌≡◌, ◌≢◌, ◌⊎◌, inl, inr, ℕ, ◌+◌, ◌-◌, ◌<◌, ◌≤◌, Bool, true, false, cond, List, [], ◌∷◌, ◌++◌, Option, Some, None, length, set, get_or, slice_get, count_by, refl, sym, ap, subst, ◌∙◌, arith}
+use Rattle.std.proofs.Common.{◌≡◌, ◌≢◌, ◌⊎◌, inl, inr, ℕ, ◌+◌, ◌-◌, ◌<◌, ◌≤◌, Bool, true, false, cond, nat_lt, List, [], ◌∷◌, ◌++◌, Option, Some, None, length, set, get_or, slice_get, count_by, refl, sym, ap, subst, ◌∙◌, lt-ltb, le-ltb, arith}
 use Rattle.std.specs.Bool.{if◌then◌else◌}
-use Rattle.std.proofs.lemmas.Bool.{cases_eq}
+use Rattle.std.proofs.lemmas.Bool.{cases_eq, cases_lt}
 use Rattle.std.proofs.lemmas.List.{get_or-set_other, length-set}
 use Rattle.cqs_core.specs.Keyed.{without}
 use Rattle.cqs_plan.specs.declared.plans.step.Step.{Step}
@@ -11,7 +11,7 @@ use Rattle.cqs_plan.specs.declared.floors.answers.FloorTake.TheVariants.{Now, Wa
 use Rattle.cqs_plan.specs.declared.floors.answers.FloorLook.TheVariants.{Granted}
 use Rattle.cqs_plan.specs.declared.floors.answers.FloorLeave.TheVariants.{Gone, Late}
 use Rattle.cqs_plan.specs.PlanSteps.{is_arrival}
-use Rattle.cqs_plan.specs.Floor.{PlainFloor, JobWait, Holding, IsJob, HasRound, wait_of, holds_of, own_rounds, round_of, room_at, is_holdable, with_done_in, with_less_room, with_wait}
+use Rattle.cqs_plan.specs.Floor.{PlainFloor, JobWait, Holding, IsJob, HasRound, wait_of, holds_of, own_rounds, round_of, room_at, is_barrier_in, is_holdable, with_done_in, with_less_room, with_wait}
 use Rattle.cqs_plan.specs.FloorHistory.{Deed, gets, is_late}
 use Rattle.cqs_plan.specs.FloorCalls.{after_take, after_look, after_leave, after_wait, after_arrive, with_granted, with_left}
 use Rattle.cqs_turns_report.proofs.ArrivalMoves.{arrived-here, arrived-else, has-place}
@@ -202,21 +202,46 @@ pub moves-looked : (place : ℕ) (b : PlainFloor) (p : List (List ℕ)) (element
     → Moves place b p steps (after_look b place (Granted element)) p steps
 moves-looked place b p element steps = moves-granted place b p gets (wait_of b place) element steps
 
--- a wait is gone
-moves-gone : (place : ℕ) (b : PlainFloor) (p q : List (List ℕ)) (wait : Option JobWait) (steps : List Step)
-    → ((at round : ℕ) → parties_in p at round ≤ parties_in q at round)
-    → Moves place b p steps (with_left b place wait) q steps
-moves-gone place b p q None steps more =
-    moves-kept place b p steps b q steps refl (but-same place None b.waits) (but-same place [] b.holds) refl
-    (λ at. omega arith) more (λ at. omega arith)
-moves-gone place b p q (Some wait) steps more =
-    moves-kept place b p steps (with_left b place (Some wait)) q steps refl (but-set place None b.waits None)
-    (but-same place [] b.holds) refl (λ at. omega arith) more (λ at. omega arith)
+-- a job with no more steps comes to no round
+comes-none : (at round next : ℕ) → parties_for at round next [] ≡ 0
+comes-none at round next = go (cases_lt round next)
+  where
+    go : (round < next) ⊎ (next ≤ round) → comes_to round next 0 ≡ 0
+    go (inl below) = rw (lt-ltb round next below) refl
+    go (inr past) = rw (le-ltb round next past, le-ltb round (next + 0) (omega (arith, past))) refl
 
-pub moves-left : (place : ℕ) (b : PlainFloor) (p q : List (List ℕ)) (steps : List Step)
+-- a wait is gone, and with it an arrival, of a job that makes no more steps
+moves-gone : (place : ℕ) (b : PlainFloor) (p q : List (List ℕ)) (wait : Option JobWait)
     → ((at round : ℕ) → parties_in p at round ≤ parties_in q at round)
-    → Moves place b p steps (after_leave b place Gone) q steps
-moves-left place b p q steps more = moves-gone place b p q (wait_of b place) steps more
+    → Moves place b p [] (with_left b place wait) q []
+moves-gone place b p q None more =
+    moves-kept place b p [] b q [] refl (but-same place None b.waits) (but-same place [] b.holds) refl
+    (λ at. omega arith) more (λ at. omega arith)
+moves-gone place b p q (Some wait) more = record {
+  kinds = refl;
+  waits = but-set place None b.waits None;
+  holds = but-same place [] b.holds;
+  rounds = back (is_barrier_in b.kinds wait.at);
+  room = λ at. omega arith;
+  comes = λ at round. omega (
+    arith,
+    more at round,
+    comes-none at round (round_of (with_left b place (Some wait)) place at),
+    comes-none at round (round_of b place at),
+  );
+}
+  where
+    row : List ℕ
+    row = set (own_rounds b place) wait.at wait.round
+
+    back : (is : Bool) → AreSameBut place [] b.rounds (if is then set b.rounds place row else b.rounds)
+    back true = but-set place [] b.rounds row
+    back false = but-same place [] b.rounds
+
+pub moves-left : (place : ℕ) (b : PlainFloor) (p q : List (List ℕ))
+    → ((at round : ℕ) → parties_in p at round ≤ parties_in q at round)
+    → Moves place b p [] (after_leave b place Gone) q []
+moves-left place b p q more = moves-gone place b p q (wait_of b place) more
 
 pub moves-late : (place : ℕ) (b : PlainFloor) (p : List (List ℕ)) (element : ℕ) (steps : List Step)
     → Moves place b p steps (after_leave b place (Late element)) p steps

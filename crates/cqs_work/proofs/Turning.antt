@@ -15,8 +15,9 @@ use Rattle.cqs_turns_report.specs.declared.states.JobState.{JobState}
 use Rattle.cqs_turns_report.specs.declared.states.End.TheVariants as end
 use Rattle.cqs_turns_report.specs.declared.states.Progress.{Progress}
 use Rattle.cqs_turns_report.specs.declared.states.Progress.TheVariants.{Stepping, Working, Waiting, Ended}
-use Rattle.cqs_turns_report.specs.Machine.{MachineIn, ActedIn}
-use Rattle.cqs_turns_report.specs.Machine as machine
+use Rattle.cqs_turns_report.specs.Machine.{ActedIn}
+use Rattle.cqs_turns_report.specs.FirstVersion.{FirstIn}
+use Rattle.cqs_turns_report.specs.FirstVersion as first
 use Rattle.cqs_turns_report.specs.Ready.{IsReady, wait_in, steps_left}
 use Rattle.cqs_turns_report.specs.Roles.{role}
 use Rattle.cqs_turns_report.specs.Turns.{places_held}
@@ -130,22 +131,22 @@ module _ (plan : Plan) (a : Actor) (f : Desk) (states : List JobState) (state : 
       (acts : Did a f state.progress (act a state.progress) (left_so after.progress) g after.progress)
       (held : after.held.items ≡ places_held g.floor.board a.place) where
     -- what the job's turn is to the machine
-    abbrev whole : ActedIn Heard → MachineIn Heard
+    abbrev whole : ActedIn Heard → FirstIn Heard
     whole b = record { scene = b.scene; progress = set (progress_of states) a.place b.progress }
 
     turn-is : (h : Heard) → job_turn_so plan a.turn a.place (progress_of states) h ≡ whole (act a state.progress h)
     turn-is h =
-        let m : MachineIn Heard = machine_so (progress_of states) h in
+        let m : FirstIn Heard = machine_so (progress_of states) h in
         let this_job : job_turn plan a.turn a.place m
-        ≡ machine.one_job heard_world plan.resources a.turn a.place (role a).job m
-        = ap (λ o. option_map_or (λ job. machine.one_job heard_world plan.resources a.turn a.place job m) o m)
+        ≡ first.one_job heard_world plan.resources a.turn a.place (role a).job m
+        = ap (λ o. option_map_or (λ job. first.one_job heard_world plan.resources a.turn a.place job m) o m)
         acting.job in
-        let these : machine.one_job heard_world plan.resources a.turn a.place (role a).job m
-        ≡ machine.one_job heard_world (role a).resources a.turn a.place (role a).job m
-        = ap (λ rs. machine.one_job heard_world rs a.turn a.place (role a).job m) (sym acting.resources) in
+        let these : first.one_job heard_world plan.resources a.turn a.place (role a).job m
+        ≡ first.one_job heard_world (role a).resources a.turn a.place (role a).job m
+        = ap (λ rs. first.one_job heard_world rs a.turn a.place (role a).job m) (sym acting.resources) in
         let its_progress : get_or (progress_of states) a.place (Ended end.Done) ≡ state.progress
         = get_or_from_slice_get (progress_of states) a.place state.progress (Ended end.Done) its-progress in
-        this_job ∙ these ∙ ap (λ p. whole (machine.after_acting heard_world (role a) p h)) its_progress
+        this_job ∙ these ∙ ap (λ p. whole (first.after_acting heard_world (role a) p h)) its_progress
 
     progress-after : progress_of (set states a.place after) ≡ set (progress_of states) a.place after.progress
     progress-after = map-set (λ (s : JobState). s.progress) states a.place after
@@ -227,7 +228,7 @@ module _ (plan : Plan) (a : Actor) (f : Desk) (states : List JobState) (state : 
 -- the jobs before `place` have had their turns since the start
 pub record TurningOn (plan : Plan) (turn place : ℕ) (f g : Desk) (before now : List Progress) : Type 0 where
   pub heard : Hears f g (turn_so plan turn before)
-      (λ h. machine.each_job heard_world plan.resources turn place (drop place plan.jobs) (machine_so now h))
+      (λ h. first.each_job heard_world plan.resources turn place (drop place plan.jobs) (machine_so now h))
   pub went : Went plan f before g now
 
 pub turning-starts : (plan : Plan) (turn : ℕ) (f : Desk) (before : List Progress)
@@ -238,26 +239,26 @@ turning-starts plan turn f before = record {
 }
 
 -- what remains, seen as the next job and the rest
-unrolled : (plan : Plan) (turn place : ℕ) (m : MachineIn Heard) → place < length plan.jobs
-    → machine.each_job heard_world plan.resources turn place (drop place plan.jobs) m
-    ≡ machine.each_job heard_world plan.resources turn (place + 1) (drop (place + 1) plan.jobs)
+unrolled : (plan : Plan) (turn place : ℕ) (m : FirstIn Heard) → place < length plan.jobs
+    → first.each_job heard_world plan.resources turn place (drop place plan.jobs) m
+    ≡ first.each_job heard_world plan.resources turn (place + 1) (drop (place + 1) plan.jobs)
     (job_turn plan turn place m)
 unrolled plan turn place m below =
     let next : (job : Job) × (slice_get plan.jobs place ≡ Some job) = get-there plan.jobs place below in
     let split : drop place plan.jobs ≡ next.0 ∷ drop (place + 1) plan.jobs = drop-at plan.jobs place next.0 next.1 in
-    let its_turn : job_turn plan turn place m ≡ machine.one_job heard_world plan.resources turn place next.0 m
-    = ap (λ o. option_map_or (λ job. machine.one_job heard_world plan.resources turn place job m) o m) next.1 in
-    ap (λ jobs. machine.each_job heard_world plan.resources turn place jobs m) split
-    ∙ ap (machine.each_job heard_world plan.resources turn (place + 1) (drop (place + 1) plan.jobs)) (sym its_turn)
+    let its_turn : job_turn plan turn place m ≡ first.one_job heard_world plan.resources turn place next.0 m
+    = ap (λ o. option_map_or (λ job. first.one_job heard_world plan.resources turn place job m) o m) next.1 in
+    ap (λ jobs. first.each_job heard_world plan.resources turn place jobs m) split
+    ∙ ap (first.each_job heard_world plan.resources turn (place + 1) (drop (place + 1) plan.jobs)) (sym its_turn)
 
 pub turns-on : (plan : Plan) (turn place : ℕ) (f g k : Desk) (before now after : List Progress)
     → TurningOn plan turn place f g before now → place < length plan.jobs
     → Hears g k (job_turn_so plan turn place now) (machine_so after) → Went plan g now k after
     → TurningOn plan turn (place + 1) f k before after
 turns-on plan turn place f g k before now after on below job went =
-    let rest : MachineIn Heard → MachineIn Heard
-    = machine.each_job heard_world plan.resources turn (place + 1) (drop (place + 1) plan.jobs) in
-    let step : Hears g k (λ h. machine.each_job heard_world plan.resources turn place (drop place plan.jobs)
+    let rest : FirstIn Heard → FirstIn Heard
+    = first.each_job heard_world plan.resources turn (place + 1) (drop (place + 1) plan.jobs) in
+    let step : Hears g k (λ h. first.each_job heard_world plan.resources turn place (drop place plan.jobs)
     (machine_so now h))
     (λ h. rest (machine_so after h))
     = record {
@@ -269,7 +270,7 @@ turns-on plan turn place f g k before now after on below job went =
     } in
     record {
       heard = hears-then f g k (turn_so plan turn before)
-          (λ h. machine.each_job heard_world plan.resources turn place (drop place plan.jobs) (machine_so now h))
+          (λ h. first.each_job heard_world plan.resources turn place (drop place plan.jobs) (machine_so now h))
           (λ h. rest (machine_so after h)) on.heard step;
       went = went-then plan f g k before now after on.heard.later on.went went;
     }
@@ -279,7 +280,7 @@ pub turn-ends : (plan : Plan) (turn place : ℕ) (f g : Desk) (before now : List
     → Hears f g (turn_so plan turn before) (machine_so now)
 turn-ends plan turn place f g before now on all =
     subst (λ jobs. Hears f g (turn_so plan turn before)
-    (λ h. machine.each_job heard_world plan.resources turn place jobs (machine_so now h)))
+    (λ h. first.each_job heard_world plan.resources turn place jobs (machine_so now h)))
     (drop_all place plan.jobs (omega (arith, all))) on.heard
 
 -- a further turn

@@ -134,7 +134,7 @@ more-left None f wait q r = omega arith
 leave-moves : (place : ℕ) (f : Shared) (wait : JobWait) (got : FloorLeave)
     → Moves place f.board f.parties [] (after_leave f.board place got) (parties_left f wait got) []
 leave-moves place f wait Gone =
-    moves-left place f.board f.parties (parties_left f wait Gone) [] (more-left (kind_at f wait.at) f wait)
+    moves-left place f.board f.parties (parties_left f wait Gone) (more-left (kind_at f wait.at) f wait)
 leave-moves place f wait (Late element) = moves-late place f.board f.parties element []
 
 pub leave-did : (a : Actor) (f g : Desk) (at round number : ℕ) (got : FloorLeave) (e : End)

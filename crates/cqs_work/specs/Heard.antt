@@ -231,6 +231,7 @@ heard_world = record {
   after_look = heard_looked;
   leave_answer = λ r h. leave_heard h.answers;
   after_leave = heard_left;
+  after_retry = λ r at round number. heard_left r at round number Gone;
   done = λ r h. h;
   held = λ job h. places_held h.board job;
 }

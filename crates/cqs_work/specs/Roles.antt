@@ -6,6 +6,7 @@ use Rattle.cqs_turns_report.specs.declared.actors.Actor.{Actor}
 use Rattle.cqs_turns_report.specs.declared.states.End.{End}
 use Rattle.cqs_turns_report.specs.declared.states.Progress.{Progress}
 use Rattle.cqs_turns_report.specs.Machine.{ActedIn, MadeIn, left_at, end_of, after_coming}
+use Rattle.cqs_turns_report.specs.FirstVersion as first
 use Rattle.cqs_turns_report.specs.Machine as machine
 use Rattle.cqs_turns_report.specs.Roles.{role}
 use Rattle.cqs_work.specs.Heard.{Heard, heard_world, come_heard, leave_heard, look_heard}
@@ -75,4 +76,4 @@ look_at a next at round number h =
     machine.after_looking heard_world (role a) next at round number (look_heard h.answers) h
 
 abbrev pub act : Actor → Progress → Heard → ActedIn Heard
-act a progress h = machine.after_acting heard_world (role a) progress h
+act a progress h = first.after_acting heard_world (role a) progress h

@@ -11,7 +11,9 @@ use Rattle.cqs_turns_report.specs.declared.states.End.TheVariants as end
 use Rattle.cqs_turns_report.specs.declared.states.JobState.{JobState}
 use Rattle.cqs_turns_report.specs.declared.states.Progress.{Progress}
 use Rattle.cqs_turns_report.specs.declared.states.Progress.TheVariants.{Stepping, Working, Waiting, Ended}
-use Rattle.cqs_turns_report.specs.Machine.{Role, MachineIn}
+use Rattle.cqs_turns_report.specs.Machine.{Role}
+use Rattle.cqs_turns_report.specs.FirstVersion.{FirstIn}
+use Rattle.cqs_turns_report.specs.FirstVersion as first
 use Rattle.cqs_turns_report.specs.Machine as machine
 use Rattle.cqs_turns_report.specs.Ready.{IsReady, wait_in, steps_left}
 use Rattle.cqs_turns_report.specs.Roles.{role}
@@ -32,27 +34,27 @@ use Rattle.cqs_work.specs.Needs.{AreProvided, IsInRounds}
 abbrev pub progress_of : List JobState → List Progress
 progress_of states = map (λ state. state.progress) states
 
-abbrev pub machine_so : List Progress → Heard → MachineIn Heard
+abbrev pub machine_so : List Progress → Heard → FirstIn Heard
 machine_so progress h = record { scene = h; progress = progress }
 
 -- the job at a place has its turn
-abbrev pub job_turn : Plan → ℕ → ℕ → MachineIn Heard → MachineIn Heard
+abbrev pub job_turn : Plan → ℕ → ℕ → FirstIn Heard → FirstIn Heard
 job_turn plan turn place m =
-    option_map_or (λ job. machine.one_job heard_world plan.resources turn place job m)
+    option_map_or (λ job. first.one_job heard_world plan.resources turn place job m)
     (slice_get plan.jobs place) m
 
-abbrev pub job_turn_so : Plan → ℕ → ℕ → List Progress → Heard → MachineIn Heard
+abbrev pub job_turn_so : Plan → ℕ → ℕ → List Progress → Heard → FirstIn Heard
 job_turn_so plan turn place progress h = job_turn plan turn place (machine_so progress h)
 
 -- a turn
-abbrev pub turn_of : Plan → ℕ → MachineIn Heard → MachineIn Heard
-turn_of plan turn m = machine.one_turn heard_world plan turn m
+abbrev pub turn_of : Plan → ℕ → FirstIn Heard → FirstIn Heard
+turn_of plan turn m = first.each_job heard_world plan.resources turn 0 plan.jobs m
 
-abbrev pub turn_so : Plan → ℕ → List Progress → Heard → MachineIn Heard
+abbrev pub turn_so : Plan → ℕ → List Progress → Heard → FirstIn Heard
 turn_so plan turn progress h = turn_of plan turn (machine_so progress h)
 
 -- the first so many turns
-abbrev pub turns_of : Plan → ℕ → List Progress → Heard → MachineIn Heard
+abbrev pub turns_of : Plan → ℕ → List Progress → Heard → FirstIn Heard
 turns_of plan zero progress h = machine_so progress h
 turns_of plan (suc turn) progress h = turn_of plan turn (turns_of plan turn progress h)
 

@@ -6,7 +6,7 @@ ghost use Rattle.cqs_work.specs.Opening.{starting, AreStarting, ArePosts};
 use crate::works::Post;
 use cqs_core::Memory;
 use cqs_plan::Plan;
-use cqs_turns_report::{End, JobState, Progress};
+use cqs_turns_report::{End, JobState, Patience, Progress};
 use std::alloc::Global;
 
 /// The job at a place goes to the worker `place % workers`. To the others it has ended.
@@ -35,6 +35,7 @@ fn starting_states(
     for place in 0..jobs {
         let state = JobState {
             progress: starting(workers, worker, place),
+            patience: Patience { since: 0, used: 0 },
             held: Vec::new(alloc),
         };
         states.push(state)?;

@@ -37,7 +37,7 @@ impl SharedLatch {
         requires sized { IsKind kind }
         requires some { 1 ≤ workers }
         requires few_workers { workers ≤ 16 }
-        requires few { waits ≤ 262144 }
+        requires few { waits ≤ 524288 }
         ensures { IfOk result (IsOpened share_latch kind workers waits) }
     {
         let config = Config {

@@ -33,7 +33,7 @@ impl SharedRound {
         requires few { parties ≤ 32 }
         requires some_workers { 1 ≤ workers }
         requires few_workers { workers ≤ 16 }
-        requires few_arrivals { arrivals ≤ 262144 }
+        requires few_arrivals { arrivals ≤ 524288 }
         ensures { IfOk result (IsOpenedRound parties workers arrivals) }
     {
         let config = Config {

@@ -35,7 +35,7 @@ impl SharedRounds {
         requires sized { IsKind kind }
         requires some { 1 ≤ workers }
         requires few_workers { workers ≤ 16 }
-        requires few { arrivals ≤ 262144 }
+        requires few { arrivals ≤ 524288 }
         ensures { IfOk result (IsOpened share_rounds kind workers arrivals) }
     {
         let Kind::Rounds { parties, rounds } = kind else {

@@ -39,7 +39,7 @@ impl SharedPermits {
         requires sized { IsKind kind }
         requires some { 1 ≤ workers }
         requires few_workers { workers ≤ 16 }
-        requires few { takes ≤ 262144 }
+        requires few { takes ≤ 524288 }
         ensures { IfOk result (IsOpened share_permits kind workers takes) }
     {
         let config = Config {

@@ -49,7 +49,7 @@ impl SharedPool {
         requires sized { IsKind kind }
         requires some { 1 ≤ workers }
         requires few_workers { workers ≤ 16 }
-        requires few { takes ≤ 262144 }
+        requires few { takes ≤ 524288 }
         ensures { IfOk result (IsOpened share_pool kind workers takes) }
     {
         let elements = elements(kind);

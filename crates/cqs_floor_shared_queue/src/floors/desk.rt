@@ -26,6 +26,7 @@ ghost use Rattle.cqs_floor_shared_queue.specs.Ledgers.{
   own_rounds,
   round_in,
   with_arrival,
+  with_back,
   with_grant,
   with_shares,
   without_wait,
@@ -35,6 +36,7 @@ ghost use Rattle.cqs_floor_shared_queue.specs.Spots.{place_in};
 
 use super::holdings::{JobHolding, drop_oldest, hold_brought, hold_taken};
 use super::spots::{FloorWait, Spot, note};
+use cqs_floor_common::take_back;
 use cqs_floor_shared::{SharedGive, Turned};
 use cqs_floor_shared_kinds::{Came, SharedResource};
 use cqs_plan::{FloorDown, FloorEnd, FloorLeave, FloorLook, FloorTake, Kind};
@@ -42,7 +44,8 @@ use std::marker::Model;
 use std::sync::Wait;
 
 /// For each resource what it is, what it is kept as, and its room; for each job where it stands,
-/// and how often it arrived at each resource; what the jobs hold; and which floor it is.
+/// and how often it arrived at each resource and didn't take that back; what the jobs hold; and
+/// which floor it is.
 #[derive(Drop)]
 pub struct Desk<X: SharedResource> {
     pub kinds: Vec<Kind>,
@@ -57,7 +60,7 @@ pub struct Desk<X: SharedResource> {
     pub met: Vec<u32>,
     /// How many floors were split from one with it.
     pub floors: u32,
-    /// For how many takes, waits and arrivals each of them has room at most.
+    /// How often the jobs may begin to wait at each of them at most.
     pub budget: u32,
 }
 
@@ -170,10 +173,13 @@ impl<X: SharedResource> Desk<X> {
         }
     }
 
-    /// The job gives its wait up: it leaves the line, where the wait still stands there.
+    /// The job gives its wait up: it leaves the line, where the wait still stands there, and takes
+    /// an arrival back.
     pub fn leave<R: Wait>(&mut self, rt: &R, job: u32) -> FloorLeave
         requires wait { CanEndWait X.share self.old job }
         requires space { length self.old.holdings < self.old.space }
+        requires own { job < length self.old.rounds }
+        requires each { length (own_rounds self.old.rounds job) ≡ length self.old.kinds }
         ensures { Leaves X.share self.old job result self.new }
     {
         let (wait, came) = self.wait_of(job);
@@ -183,7 +189,7 @@ impl<X: SharedResource> Desk<X> {
         }
         match self.ask_leave(rt, job, wait) {
             FloorLeave::Gone => {
-                self.end_wait(job);
+                self.give_up(job, wait);
                 FloorLeave::Gone
             }
             FloorLeave::Late(element) => {
@@ -227,6 +233,18 @@ impl<X: SharedResource> Desk<X> {
         ensures same { self.new ≡ with_shares self.old self.new.shares }
     {
         self.shares[wait.at as usize].leave(rt, job, wait.round, wait.place())
+    }
+
+    /// The wait of a job is over, and nothing came: an arrival is taken back.
+    fn give_up(&mut self, job: u32, wait: FloorWait)
+        requires job { job < length self.old.spots }
+        requires own { job < length self.old.rounds }
+        requires each { length (own_rounds self.old.rounds job) ≡ length self.old.kinds }
+        ensures { self.new ≡ with_back (without_wait self.old job) job wait }
+    {
+        self.end_wait(job);
+        let kinds = self.kinds.as_slice();
+        take_back(kinds, &mut self.rounds, job, wait.at, wait.round);
     }
 
     /// The wait of a job is over.

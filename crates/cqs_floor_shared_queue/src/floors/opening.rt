@@ -1,7 +1,7 @@
 //! The making of the floors of several workers for a plan: its resources, what each worker has of
 //! them, and the memory for all that the steps can lead to.
 
-ghost use Rattle.std.specs.Prelude.{◌≡◌, ◌+◌, ◌-◌, ◌*◌, ◌%◌, ◌&&◌, nat_le, cond, ◌<◌, ◌≤◌, ◌∷◌, IfOk, length, map, replicate, sum, vec_len};
+ghost use Rattle.std.specs.Prelude.{◌≡◌, ℕ, ◌+◌, ◌-◌, ◌*◌, ◌%◌, ◌&&◌, nat_le, cond, ◌<◌, ◌≤◌, ◌∷◌, IfOk, length, map, replicate, slice_index, sum, vec_len};
 ghost use Rattle.std.specs.List.{list_any};
 ghost use Rattle.cqs_core.specs.Numbered.{EachAt};
 ghost use Rattle.cqs_plan.specs.PlanSteps.{is_arrival};
@@ -154,9 +154,9 @@ fn kinds(alloc: Global, resources: &[Resource]) -> Result<Vec<Kind>, AllocError>
         .collect(alloc)
 }
 
-/// How many takes, waits and arrivals there are at all resources together.
+/// How often the jobs may begin to wait at all resources together.
 fn total(room: &[u32]) -> u32
-    requires { sum room.now ≤ 262144 }
+    requires { sum room.now ≤ 33554432 }
     ensures { result ≡ sum room.now }
 {
     room.iter().copied().sum()
@@ -197,7 +197,7 @@ fn open_shares<X: ForEachKind>(
 ) -> Result<Vec<X>, Memory>
     requires sized { AreSized resources.now }
     requires same { length room.now ≡ length resources.now }
-    requires few { sum room.now ≤ 262144 }
+    requires few { (at : ℕ) → slice_index room.now at ≤ 524288 }
     requires some { 1 ≤ workers }
     requires few_workers { workers ≤ 16 }
     ensures opened { IfOk result (λ shares. HaveOpened X.share resources.now workers room.now

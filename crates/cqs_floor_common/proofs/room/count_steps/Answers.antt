@@ -1,5 +1,4 @@
 use Rattle.std.proofs.Common.{◌<◌, length, arith}
-use Rattle.cqs_core.proofs.CoreSteps.{gains-sum}
 use Rattle.cqs_turns_report.proofs.StepCounts.{counted-else, counted-step}
 use Rattle.cqs_floor_common.proofs.Counting.{within-at}
 use Rattle.cqs_floor_common.proofs.room.count_steps.Goals as goal
@@ -21,24 +20,20 @@ loop-step-preserved c = elim c.match-step.branch [
       record {
         counts = rw w.room-is
             (counted-step _ _ _ _ _ c.loop-step-test.true there w.in-Take.is c.loop-step.invariant.counts);
-        few = rw w.room-is (omega (arith, gains-sum c.loop-step.room w.in-Take.at there, c.loop-step.invariant.few));
       }
   | in-Give w ↦
       record {
         counts = rw w.room-is
             (counted-else _ _ _ _ c.loop-step-test.true w.in-Give.is c.loop-step.invariant.counts);
-        few = rw w.room-is (omega (arith, c.loop-step.invariant.few));
       }
   | in-Give-2 w ↦
       record {
         counts = rw w.room-is
             (counted-else _ _ _ _ c.loop-step-test.true w.in-Give.is c.loop-step.invariant.counts);
-        few = rw w.room-is (omega (arith, c.loop-step.invariant.few));
       }
   | in-Give-3 w ↦
       record {
         counts = rw w.room-is
             (counted-else _ _ _ _ c.loop-step-test.true w.in-Give.is c.loop-step.invariant.counts);
-        few = rw w.room-is (omega (arith, c.loop-step.invariant.few));
       }
 ]

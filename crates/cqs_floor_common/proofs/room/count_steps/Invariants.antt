@@ -1,4 +1,4 @@
-use Rattle.std.proofs.Common.{◌≡◌, ℕ, ◌+◌, ◌≤◌, get_or, sum, count_by, take}
+use Rattle.std.proofs.Common.{◌≡◌, ℕ, ◌+◌, get_or, count_by, take}
 use Rattle.cqs_plan.specs.PlanSteps.{may_wait}
 use Rattle.cqs_floor_common.proofs.room.count_steps.Given as goal
 
@@ -6,5 +6,4 @@ abbrev pub invariant-loop-step : goal.invariant-loop-step
 invariant-loop-step l = record {
   counts : (at : ℕ) → get_or l.room at 0 ≡ get_or l.initial.room at 0
       + count_by (may_wait at) (take l.step-index l.steps);
-  few : sum l.room ≤ sum l.initial.room + l.step-index;
 }

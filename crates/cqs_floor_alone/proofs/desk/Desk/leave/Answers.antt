@@ -1,5 +1,5 @@
 use Rattle.std.proofs.Common.{None, ap, inl, inr, refl, subst}
-use Rattle.cqs_floor_alone.specs.Ledger.{Ledger, with_grant, with_wait}
+use Rattle.cqs_floor_alone.specs.Ledger.{Ledger, with_back, with_grant, with_wait}
 use Rattle.cqs_floor_alone.proofs.Called.{called, less-spare, written}
 use Rattle.cqs_floor_alone_kinds.specs.Stores.{Cancels}
 use Rattle.cqs_floor_alone_kinds.specs.Waits.{place_in}
@@ -20,7 +20,8 @@ returns-in-Gone g c =
       c.wait_of-wait.ensures.was,
       called (λ x y. Cancels s job x w.round (place_in w) Gone y) same
           c.wait_of-wait.ensures.sole c.index_mut.ensures.value made,
-      written (λ l. with_wait l job None) c.self.view_is refl c.take_out_wait.ensures refl refl refl,
+      written (λ l. with_back (with_wait l job None) job w) c.self.view_is refl c.take_out_wait.ensures
+          (rw c.as_slice.ensures.value at c.take_back.ensures) refl refl,
     )
 
 pub returns-in-Late : goal.returns-in-Late

@@ -1,5 +1,5 @@
 use Rattle.std.proofs.Common.{Some, inr, ap, subst, sym, ◌∙◌}
-use Rattle.cqs_floor_shared_queue.specs.Ledgers.{Ledger, with_grant, with_shares, without_wait}
+use Rattle.cqs_floor_shared_queue.specs.Ledgers.{Ledger, with_back, with_grant, with_shares, without_wait}
 use Rattle.cqs_floor_shared_kinds.specs.ShareCalls as calls
 use Rattle.cqs_floor_shared_queue.specs.Spots.{place_in}
 use Rattle.cqs_floor_shared_queue.proofs.floors.desk.Desk.leave.Goals as goal
@@ -34,7 +34,7 @@ returns-in-Gone g c =
     let l = c.args.self.now in
     let w = c.wait_of-came.result.0 in
     let a = c.ask_leave.ensures in
-    let b = c.end_wait.ensures in
+    let b = c.give_up.ensures in
     let shares = ap (λ (m : Ledger g.row.X.Denot). m.shares) b in
     record {
       wait = w;
@@ -47,6 +47,6 @@ returns-in-Gone g c =
             a.calls.made;
         shares = shares ∙ a.calls.shares;
       };
-      writes = b ∙ ap (λ m. without_wait m c.args.job) a.same
-          ∙ ap (λ xs. with_shares (without_wait l c.args.job) xs) (sym shares);
+      writes = b ∙ ap (λ m. with_back (without_wait m c.args.job) c.args.job w) a.same
+          ∙ ap (λ xs. with_shares (with_back (without_wait l c.args.job) c.args.job w) xs) (sym shares);
     }

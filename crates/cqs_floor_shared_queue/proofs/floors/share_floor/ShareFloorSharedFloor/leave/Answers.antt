@@ -1,4 +1,5 @@
-use Rattle.std.proofs.Common.{◌<◌, length, subst, sym}
+use Rattle.std.proofs.Common.{◌≡◌, ◌<◌, length, subst, sym}
+use Rattle.cqs_floor_shared_queue.specs.Ledgers.{own_rounds}
 use Rattle.cqs_floor_shared_queue.specs.DeskCalls.{CanEndWait, Leaves}
 use Rattle.cqs_floor_shared_queue.specs.FloorKept.{IsKept}
 use Rattle.cqs_floor_shared_queue.proofs.FloorLooks.{end-can, end-space, leave-well}
@@ -19,6 +20,14 @@ leave-requires-clause-space g c =
     let kept = subst (IsKept s) c.self.view_is c.self.invariant in
     subst (λ m. length m.holdings < m.space) (sym c.self.view_is)
     (end-space s l c.args.job kept c.requires.job c.requires.waits)
+
+pub leave-requires-clause-own : goal.leave-requires-clause-own
+leave-requires-clause-own g c =
+    subst (λ m. c.args.job < length m.rounds) (sym c.self.view_is) c.requires.job.rounds
+
+pub leave-requires-clause-each : goal.leave-requires-clause-each
+leave-requires-clause-each g c =
+    subst (λ m. length (own_rounds m.rounds c.args.job) ≡ length m.kinds) (sym c.self.view_is) c.requires.job.each
 
 pub invariant_of-self : goal.invariant_of-self
 invariant_of-self g c =

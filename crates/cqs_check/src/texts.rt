@@ -2,7 +2,8 @@
 
 ghost use Rattle.std.specs.Prelude.{◌≡◌, ◌∷◌, [], ℕ, ◌<◌, ◌^◌, ◌≤◌, length, codes, IfOk, Err};
 ghost use Rattle.std.specs.Str.{bytes_eq};
-ghost use Rattle.cqs_check.specs.Histories.{IsHistory, IsFirstBadLine, IsPermitsOf, history_text};
+ghost use Rattle.cqs_check.specs.Histories.{IsHistory, IsFirstBadLine, IsPermitsOf, IsRead, history_text};
+ghost use Rattle.cqs_check.specs.declared.texts.History.{History};
 ghost use Rattle.cqs_check.specs.declared.texts.HistoryError.TheVariants.{BadLine};
 
 use cqs_core::Entry;
@@ -81,7 +82,11 @@ fn permits_of(verb: &[u8], numbers: &[u64]) -> Option<u32>
 pub fn read_history(alloc: Global, bytes: &[u8]) -> Result<History, HistoryError>
     requires { length bytes.now < 2 ^ 32 }
     ensures ok { IfOk result (λ h. IsHistory h × (bytes.now ≡ history_text h)) }
+    ensures few { IfOk result (λ h. length h.entries.items ≤ length bytes.now) }
     ensures bad { (n : ℕ) → result ≡ Err (BadLine n) → IsFirstBadLine bytes.now n }
+
+    // What was written is read again.
+    ensures again { (h : History) → IsHistory h → bytes.now ≡ history_text h → IsRead result h }
 {
     match read_headed(alloc, &PermitsForm, &EntryForm, bytes) {
         Ok((permits, entries)) => Ok(History { permits, entries }),

@@ -5,6 +5,7 @@ use Rattle.cqs_lines.specs.declared.forms.LineError.TheVariants.{Bad}
 use Rattle.cqs_lines.specs.Said.{Said, said_text, line_text, tail_text, IsLine}
 use Rattle.cqs_lines.specs.Forms.{lines_text, AllFit, AreItems, IsFirstBad}
 use Rattle.cqs_lines.specs.Headed.{IsHeaded, IsHeadless, IsBadBehind, IsFirstBadHeaded}
+use Rattle.cqs_lines.proofs.Reading.{line-longer, lines-many}
 
 -- a line has a space and a line feed at least
 pub line-long : (s : Said) (text more : List ℕ) → IsLine s → text ≡ line_text s more → length more + 2 ≤ length text
@@ -37,3 +38,10 @@ module _ {H X : Type 0} (head_says : H → Said) (head_fits : H → Type 0) (say
     text_is = same;
     bad = bad;
   })
+
+  -- a text has no more items than bytes
+  pub headed-many : (head : H) (items : List X) (text : List ℕ)
+      → IsHeaded head_says head_fits says fits head items text → length items ≤ length text
+  headed-many head items text is =
+      let longer = line-longer (head_says head) text (lines_text says items []) is.text_is in
+      omega (arith, longer, lines-many says fits items [])

@@ -46,6 +46,14 @@ module _ {X : Type 0} (says : X → Said) (fits : X → Type 0) where
   fit-push [] x all here = (here, tt)
   fit-push (y ∷ ys) x all here = (all.0, fit-push ys x all.1 here)
 
+  -- a text has no more lines than bytes
+  pub lines-many : (xs : List X) (more : List ℕ) → length xs ≤ length (lines_text says xs more)
+  lines-many [] more = omega arith
+  lines-many (x ∷ xs) more =
+      let rest = lines_text says xs more in
+      let longer = line-longer (says x) (line_text (says x) rest) rest refl in
+      omega (arith, longer, lines-many xs more)
+
   -- on the way through a text
   pub record IsThrough (text : List ℕ) (items : List X) (rest : List ℕ) : Type 0 where
     pub fit : AllFit says fits items

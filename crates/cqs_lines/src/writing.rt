@@ -16,6 +16,16 @@ pub fn write_number(text: &mut Vec<u8>, number: u64) -> Result<(), AllocError>
     Ok(())
 }
 
+/// Appends a label and the number in decimal.
+pub fn write_labelled(text: &mut Vec<u8>, label: &[u8], number: u64) -> Result<(), AllocError>
+    ensures { OnOk result (text.new.items ≡ text.old.items ++ label.now ++ decimal number) }
+{
+    let mut buffer = Buffer::new();
+    text.extend_from_slice(label)?;
+    text.extend_from_slice(buffer.format(number).as_bytes())?;
+    Ok(())
+}
+
 /// Appends a line of this verb and these numbers, without its line feed.
 pub fn write_said(text: &mut Vec<u8>, verb: &[u8], numbers: &[u64]) -> Result<(), AllocError>
     ensures { OnOk result

@@ -1,2 +1,2 @@
 mod Permits
-mod Unique
+pub mod Unique

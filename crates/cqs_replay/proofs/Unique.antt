@@ -1,63 +1,19 @@
--- A text is that of one schedule, and no line of it is bad.
-use Rattle.std.proofs.Common.{◌≡◌, ◌≢◌, ◌⊎◌, inl, inr, ℕ, ◌+◌, ◌<◌, List, [], ◌∷◌, ◌++◌, length, refl, sym, ap, ap₂, ◌∙◌, arith, length-append, Option, Some, None, Bool, true, false, codes, if◌then◌else◌}
+-- A text is that of one schedule, and then no line of it is bad. An entry's line is that of one entry.
+use Rattle.std.proofs.Common.{◌≡◌, ℕ, List, [], ◌∷◌, refl, sym, ap, ◌∙◌, Option, Some, None, codes, if◌then◌else◌}
 use Rattle.std.specs.Str.{bytes_eq}
+use Rattle.cqs_core.specs.declared.entries.Entry.{Entry}
+use Rattle.cqs_core.specs.declared.entries.Entry.TheVariants as entry
 use Rattle.cqs_core.specs.declared.events.Event.{Event}
 use Rattle.cqs_core.specs.declared.events.Event.TheVariants as event
-use Rattle.cqs_lines.specs.Said.{Said, said_text, line_text, IsLine}
-use Rattle.cqs_lines.specs.Forms.{lines_text, AllFit}
-use Rattle.cqs_lines.specs.Headed.{IsFirstBadHeaded, IsBadBehind}
-use Rattle.cqs_lines.proofs.Texts.{cut-unique, said-unique}
-use Rattle.cqs_lines.proofs.Reading.{line-whole, line-said}
-use Rattle.cqs_replay.specs.declared.heads.Head.{Head}
+use Rattle.cqs_lines.specs.Said.{Said}
+use Rattle.cqs_lines.specs.Headed.{IsHeaded}
+use Rattle.cqs_lines.proofs.Unique.{headed-unique, headed-good}
 use Rattle.cqs_replay.specs.declared.schedules.Schedule.{Schedule}
+use Rattle.cqs_replay.specs.EntryLines.{entry_says}
 use Rattle.cqs_replay.specs.EventLines.{event_says, IsEvent}
 use Rattle.cqs_replay.specs.EventLaws.{event_is_line}
 use Rattle.cqs_replay.specs.HeadLaws.{head_is_line}
 use Rattle.cqs_replay.specs.Schedules.{head_says, IsHead, head_of, IsSchedule, schedule_text, IsFirstBadLine, IsSame}
-
--- two lines at the front of one text are the same
-line-unique : (s t : Said) (a b : List ℕ) → IsLine s → IsLine t → line_text s a ≡ line_text t b
-    → (s ≡ t) × (a ≡ b)
-line-unique s t a b first second same =
-    let parts = cut-unique 10 (said_text s) a (said_text t) b (line-whole s first)
-    (line-whole t second) same in (
-      said-unique (said_text s) s t (line-said (said_text s) s first refl)
-          (line-said (said_text s) t second parts.0),
-      parts.1,
-    )
-
--- a line isn't empty
-line-some : (s : Said) (a : List ℕ) → [] ≡ line_text s a → ⊥
-line-some s a same =
-    let none : 0 ≡ length (said_text s ++ 10 ∷ a) = ap length same in
-    omega (arith, none, length-append (said_text s) (10 ∷ a))
-
-module _ {X : Type 0} (says : X → Said) (fits : X → Type 0) (clean : (x : X) → fits x
-    → IsLine (says x)) (one : (x y : X) → says x ≡ says y → x ≡ y) where
-  items-unique : (xs ys : List X) → AllFit says fits xs → AllFit says fits ys
-      → lines_text says xs [] ≡ lines_text says ys []
-      → xs ≡ ys
-  items-unique [] [] a b same = refl
-  items-unique [] (y ∷ ys) a b same = absurd (line-some (says y) (lines_text says ys []) same)
-  items-unique (x ∷ xs) [] a b same = absurd (line-some (says x) (lines_text says xs []) (sym same))
-  items-unique (x ∷ xs) (y ∷ ys) a b same =
-      let parts = line-unique (says x) (says y) (lines_text says xs []) (lines_text says ys [])
-      (clean x a.0) (clean y b.0) same in
-      ap₂ (λ z zs. z ∷ zs) (one x y parts.0) (items-unique xs ys a.1 b.1 parts.1)
-
-  none-bad : (xs ys : List X) (left : List ℕ) → AllFit says fits xs → AllFit says fits ys
-      → lines_text says xs left ≡ lines_text says ys [] → 0 < length left
-      → ((i : X) (more : List ℕ) → fits i → left ≢ line_text (says i) more) → ⊥
-  none-bad [] [] left a b same some bad =
-      let none : length left ≡ 0 = ap length same in
-      omega (arith, none, some)
-  none-bad [] (y ∷ ys) left a b same some bad = bad y (lines_text says ys []) b.0 same
-  none-bad (x ∷ xs) [] left a b same some bad =
-      line-some (says x) (lines_text says xs left) (sym same)
-  none-bad (x ∷ xs) (y ∷ ys) left a b same some bad =
-      let parts = line-unique (says x) (says y) (lines_text says xs left) (lines_text says ys [])
-      (clean x a.0) (clean y b.0) same in
-      none-bad xs ys left a.1 b.1 parts.1 some bad
 
 -- the event that a line says
 with-pass : (ℕ → Event) → List ℕ → Option Event
@@ -104,29 +60,66 @@ event-one e f same =
     let both : Some e ≡ Some f = sym (said-says e) ∙ ap said-event same ∙ said-says f in
     cc both
 
-pub one_schedule : (r s : Schedule) (text : List ℕ) → IsSchedule r → text ≡ schedule_text r
-    → IsSchedule s
+-- the same of an entry
+with-caller : (ℕ → Entry) → List ℕ → Option Entry
+with-caller made [] = None
+with-caller made (p ∷ more) = Some (made p)
+
+with-number : (ℕ → ℕ → Entry) → List ℕ → Option Entry
+with-number made [] = None
+with-number made (p ∷ []) = None
+with-number made (p ∷ k ∷ more) = Some (made p k)
+
+said-entry : Said → Option Entry
+said-entry s =
+    if bytes_eq s.verb (codes "takenow") then with-caller entry.TakeNow s.numbers
+    else if bytes_eq s.verb (codes "takedoor") then with-caller entry.TakeDoor s.numbers
+    else if bytes_eq s.verb (codes "enter") then with-number entry.Enter s.numbers
+    else if bytes_eq s.verb (codes "trygot") then with-caller entry.TryGot s.numbers
+    else if bytes_eq s.verb (codes "trybusy") then with-caller entry.TryBusy s.numbers
+    else if bytes_eq s.verb (codes "givefreed") then with-caller entry.GiveFreed s.numbers
+    else if bytes_eq s.verb (codes "givesent") then with-caller entry.GiveSent s.numbers
+    else if bytes_eq s.verb (codes "deliver") then with-caller entry.Deliver s.numbers
+    else if bytes_eq s.verb (codes "leave") then with-number entry.Leave s.numbers
+    else if bytes_eq s.verb (codes "late") then with-number entry.Late s.numbers
+    else if bytes_eq s.verb (codes "granted") then with-number entry.LookGranted s.numbers
+    else with-number entry.LookPending s.numbers
+
+entry-says : (e : Entry) → said-entry (entry_says e) ≡ Some e
+unfolding said-entry with-caller with-number
+entry-says (entry.TakeNow p) = refl
+entry-says (entry.TakeDoor p) = refl
+entry-says (entry.Enter p k) = refl
+entry-says (entry.TryGot p) = refl
+entry-says (entry.TryBusy p) = refl
+entry-says (entry.GiveFreed p) = refl
+entry-says (entry.GiveSent p) = refl
+entry-says (entry.Deliver k) = refl
+entry-says (entry.Leave p k) = refl
+entry-says (entry.Late p k) = refl
+entry-says (entry.LookGranted p k) = refl
+entry-says (entry.LookPending p k) = refl
+
+pub entry-one : (e f : Entry) → entry_says e ≡ entry_says f → e ≡ f
+entry-one e f same =
+    let both : Some e ≡ Some f = sym (entry-says e) ∙ ap said-entry same ∙ entry-says f in
+    cc both
+
+-- a schedule and its text, as a head and items
+headed-schedule : (s : Schedule) (text : List ℕ) → IsSchedule s → text ≡ schedule_text s
+    → IsHeaded head_says IsHead event_says IsEvent (head_of s) s.events.items text
+headed-schedule s text is same = record { head_fit = is.head; fit = is.events; text_is = same }
+
+pub one_schedule : (r s : Schedule) (text : List ℕ) → IsSchedule r → text ≡ schedule_text r → IsSchedule s
     → text ≡ schedule_text s → IsSame r s
 one_schedule r s text first is second also =
-    let parts = line-unique (head_says (head_of r)) (head_says (head_of s))
-    (lines_text event_says r.events.items []) (lines_text event_says s.events.items [])
-    (head_is_line (head_of r) first.head) (head_is_line (head_of s) second.head) (sym is
-    ∙ also) in
-    record {
-      permits = cc parts.0;
-      passes = cc parts.0;
-      events = items-unique event_says IsEvent event_is_line event-one r.events.items s.events.items
-          first.events second.events parts.1;
-    }
+    let parts = headed-unique event_says IsEvent event_is_line event-one head_says IsHead head_is_line (head_of r)
+    (head_of s) r.events.items s.events.items text (headed-schedule r text first is)
+    (headed-schedule s text second also) in
+    record { permits = cc parts.0; passes = cc parts.0; events = parts.1 }
 
 pub none_bad : (s : Schedule) (text : List ℕ) (n : ℕ) → IsSchedule s → text ≡ schedule_text s
     → IsFirstBadLine text n → ⊥
-none_bad s text n is same (inl first) =
-    first.1 (head_of s) (lines_text event_says s.events.items []) is.head same
-none_bad s text n is same (inr behind) =
-    let parts = line-unique (head_says behind.head) (head_says (head_of s)) behind.rest
-    (lines_text event_says s.events.items []) (head_is_line behind.head behind.head_fit)
-    (head_is_line (head_of s) is.head) (sym behind.text_is ∙ same) in
-    none-bad event_says IsEvent event_is_line event-one behind.bad.items s.events.items
-    behind.bad.left
-    behind.bad.fit is.events (sym behind.bad.text_is ∙ parts.1) behind.bad.some behind.bad.bad
+none_bad s text n is same =
+    headed-good event_says IsEvent event_is_line event-one head_says IsHead head_is_line (head_of s) s.events.items
+    text n (headed-schedule s text is same)

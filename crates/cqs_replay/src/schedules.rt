@@ -1,6 +1,6 @@
 //! Schedules, read and written.
 
-ghost use Rattle.std.specs.Prelude.{◌≡◌, ℕ, ◌<◌, ◌^◌, length, IfOk, Err};
+ghost use Rattle.std.specs.Prelude.{◌≡◌, ℕ, ◌<◌, ◌≤◌, ◌^◌, length, IfOk, Err};
 ghost use Rattle.cqs_replay.specs.Schedules.{IsSchedule, IsFirstBadLine, IsRead, schedule_text};
 ghost use Rattle.cqs_replay.specs.declared.schedules.Schedule.{Schedule};
 ghost use Rattle.cqs_replay.specs.declared.schedules.ScheduleError.TheVariants.{BadLine};
@@ -31,6 +31,7 @@ pub enum ScheduleError {
 pub fn read_schedule(alloc: Global, bytes: &[u8]) -> Result<Schedule, ScheduleError>
     requires { length bytes.now < 2 ^ 32 }
     ensures ok { IfOk result (λ s. IsSchedule s × (bytes.now ≡ schedule_text s)) }
+    ensures few { IfOk result (λ s. length s.events.items ≤ length bytes.now) }
     ensures bad { (n : ℕ) → result ≡ Err (BadLine n) → IsFirstBadLine bytes.now n }
 
     // What was written is read again.

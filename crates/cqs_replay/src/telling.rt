@@ -1,6 +1,6 @@
 //! What a run of a schedule tells: the outcomes, and the history.
 
-ghost use Rattle.std.specs.Prelude.{◌≡◌, ◌++◌, ◌<◌, ◌^◌, length, IfOk, OnOk, codes, decimal};
+ghost use Rattle.std.specs.Prelude.{◌≡◌, ◌++◌, ◌<◌, ◌^◌, length, IfOk, OnOk, codes};
 ghost use Rattle.std.specs.Fmt.{signed_decimal};
 ghost use Rattle.cqs_core.specs.SemaphoreEntries.{IsLegal};
 ghost use Rattle.cqs_replay.specs.Schedules.{IsSchedule};
@@ -13,7 +13,7 @@ use crate::running::{make, open, run_events};
 use crate::schedules::Schedule;
 use cqs_core::{Event, Outcome};
 use cqs_core_run::Core;
-use cqs_lines::write_said;
+use cqs_lines::{write_labelled, write_said};
 use itoa::Buffer;
 use std::alloc::{AllocError, Global};
 
@@ -34,16 +34,6 @@ fn write_stopped(text: &mut Vec<u8>, line: u64) -> Result<(), AllocError>
 {
     write_labelled(text, b"stopped at line ", line)?;
     text.extend_from_slice(b"\n")?;
-    Ok(())
-}
-
-/// Appends a label and a number.
-fn write_labelled(text: &mut Vec<u8>, label: &[u8], number: u64) -> Result<(), AllocError>
-    ensures { OnOk result (text.new.items ≡ text.old.items ++ label.now ++ decimal number) }
-{
-    let mut buffer = Buffer::new();
-    text.extend_from_slice(label)?;
-    text.extend_from_slice(buffer.format(number).as_bytes())?;
     Ok(())
 }
 

@@ -1,10 +1,11 @@
 //! A history of a million entries.
 
+use cqs_check::{Checked, check_history};
 use cqs_core::Entry;
 use std::alloc::{AllocError, Global};
 
 /// So many callers come into the line, one behind the other, and are then served in order.
-pub fn long_history(alloc: Global, callers: u64) -> Result<Vec<Entry>, AllocError> {
+fn long_history(alloc: Global, callers: u64) -> Result<Vec<Entry>, AllocError> {
     let mut entries = Vec::new(alloc);
     entries.push(Entry::TakeNow { pass: 0 })?;
     for wait in 0..callers {
@@ -16,4 +17,20 @@ pub fn long_history(alloc: Global, callers: u64) -> Result<Vec<Entry>, AllocErro
         entries.push(Entry::Deliver { wait })?;
     }
     Ok(entries)
+}
+
+/// What is found of the history of so many callers, in words.
+pub fn judge_long_history(alloc: Global, callers: u64) -> anyhow::Result<String> {
+    let entries = long_history(alloc, callers)?;
+    let count = entries.len();
+    if count >= 4_294_967_296 {
+        anyhow::bail!("too many entries");
+    }
+    let found = match check_history(alloc, 1, entries.as_slice())? {
+        Checked::Legal { next, held, .. } => {
+            format!(in alloc; "{count} entries: legal, next {next} held {held}")?
+        }
+        Checked::Bad(place) => format!(in alloc; "{count} entries: not legal at {place}")?,
+    };
+    Ok(found)
 }

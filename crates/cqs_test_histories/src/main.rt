@@ -14,12 +14,10 @@
 #![tactic(auto)]
 
 mod asking;
-mod judging;
 mod long;
 
 use crate::asking::answer;
-use crate::judging::judged;
-use crate::long::long_history;
+use crate::long::judge_long_history;
 use std::fs;
 use std::rt::Files;
 
@@ -80,8 +78,7 @@ fn main(rt: HostRuntime) -> anyhow::Result<()> {
     for name in FILES {
         run_file(&rt, name)?;
     }
-    let long = long_history(rt.alloc(), 250_000)?;
-    let found = judged(rt.alloc(), 1, long.as_slice())?;
-    print!(rt; "{} entries: {found}", long.len())?;
+    let found = judge_long_history(rt.alloc(), 250_000)?;
+    println!(rt; "{found}")?;
     Ok(())
 }

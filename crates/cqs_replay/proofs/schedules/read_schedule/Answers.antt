@@ -1,7 +1,15 @@
 use Rattle.std.proofs.Common.{rules, ◌≡◌, Err}
+use Rattle.cqs_lines.proofs.HeadedTexts.{headed-many}
+use Rattle.cqs_replay.specs.EventLines.{event_says, IsEvent}
+use Rattle.cqs_replay.specs.Schedules.{head_says, IsHead}
 use Rattle.cqs_replay.specs.declared.schedules.Schedule.{Schedule}
 use Rattle.cqs_replay.proofs.Unique.{one_schedule, none_bad}
 use Rattle.cqs_replay.proofs.schedules.read_schedule.Goals as goal
+
+pub returns-in-Ok-clause-few : goal.returns-in-Ok-clause-few
+returns-in-Ok-clause-few c =
+    headed-many head_says IsHead event_says IsEvent c.in-Ok.head c.in-Ok.events.items c.args.bytes.now
+    c.in-Ok.ensures.ok
 
 pub returns-in-Ok-clause-again : goal.returns-in-Ok-clause-again
 returns-in-Ok-clause-again c = λ s is same.

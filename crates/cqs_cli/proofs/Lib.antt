@@ -1,5 +1,7 @@
+pub mod Inputs
 pub mod MeaningLemmas
 pub mod PlanLemmas
+pub mod StudyLemmas
 pub mod WordLemmas
 pub mod RunFloors
 pub mod Summed

@@ -7,11 +7,13 @@ use Rattle.cqs_cli_streams.specs.declared.streams.reading.TheConstants.{LONGEST_
 use Rattle.cqs_cli_streams.specs.declared.streams.sink.Sink.{Ghosts as Sink}
 use Rattle.cqs_cli_streams.specs.declared.streams.source.Source.{Ghosts as Source}
 use Rattle.cqs_cli_streams.specs.declared.streams.tally.Tally.{Tally}
-use Rattle.cqs_cli.specs.Meanings.{IsStatus, MustEnd, NamedFault}
+use Rattle.cqs_cli.specs.Meanings.{IsStatus, MustEnd, NamedFault, StudyTold}
 use Rattle.cqs_cli.specs.Plans.{IsPlan}
 use Rattle.cqs_cli.specs.Tellings.{Broke, Wrote}
-use Rattle.cqs_cli.specs.Words.{IsSomeGen, usage}
-use Rattle.cqs_cli.specs.declared.statuses.TheConstants.{DONE, NO_COMMAND, NO_MEMORY, NO_PLAN, SINK_FAILED, SOURCE_FAILED, TOO_LONG}
+use Rattle.cqs_cli.specs.Words.{IsSomeGen, IsSomeStudy, IsStudy, usage}
+use Rattle.cqs_cli.specs.declared.statuses.TheConstants.{BAD_TEXT, DONE, NO_COMMAND, NO_MEMORY, NO_PLAN, NOT_LEGAL, SINK_FAILED, SOURCE_FAILED, TOO_LONG}
+use Rattle.cqs_cli_histories.specs.Studies.{HasForm, IsBadText, IsIllegalInput, IsLegalInput, IsNotLegal, IsStudyText}
+use Rattle.cqs_cli_histories.specs.declared.studies.Study.{Study}
 
 -- Some commands, and what they tell and keep. Of the source that is by what it had left before and
 -- after the call, of the sink by what it held and holds now.
@@ -36,6 +38,10 @@ module _ {Kept S K : Type 0} (commands : Commands Kept) (source : Source S) (sin
   open source use {left, faults as source_faults, tally as read}
   open sink use {held, is_flushed, faults as sink_faults, tally as written}
 
+  -- the words are those of a command that reads
+  abbrev pub Reads : List (List ℕ) → Type 0
+  Reads words = ReadsPlan words ⊎ IsSomeStudy words
+
   -- One call on these words, from one source to the next and from one sink to the next; what it
   -- keeps, and the status that it gives.
   pub record IsCallOf (words : List (List ℕ)) (before after : S) (old new : K) (kept : Kept)
@@ -54,7 +60,7 @@ module _ {Kept S K : Type 0} (commands : Commands Kept) (source : Source S) (sin
         × IsTrue (is_flushed new)
     -- The source failed, and nothing was written.
     pub source_failed : status ≡ SOURCE_FAILED
-        → ReadsPlan words × Rises (source_faults before) (source_faults after) × (new ≡ old)
+        → Reads words × Rises (source_faults before) (source_faults after) × (new ≡ old)
     -- The sink failed, after a prefix of the text that was to be written.
     pub sink_failed : status ≡ SINK_FAILED
         → Rises (sink_faults old) (sink_faults new)
@@ -64,19 +70,31 @@ module _ {Kept S K : Type 0} (commands : Commands Kept) (source : Source S) (sin
     pub no_memory : status ≡ NO_MEMORY → IsCommand words × (new ≡ old)
     -- One byte more than an input may have was read, and nothing was written.
     pub too_long : status ≡ TOO_LONG
-        → ReadsPlan words × GivesCount (LONGEST_INPUT + 1) (left before) (left after)
+        → Reads words × GivesCount (LONGEST_INPUT + 1) (left before) (left after)
         × (new ≡ old)
+    -- Of a schedule or a history status 0 means also that the sink counted just the whole text.
+    pub studied : status ≡ DONE → IsSomeStudy words
+        → StudyTold IsStudyText words (left before) (left after)
+        (λ text. Wrote sink text old new)
+    -- The input was no schedule, or no history, and the line that names its first bad line was
+    -- written and flushed.
+    pub bad_text : status ≡ BAD_TEXT
+        → StudyTold IsBadText words (left before) (left after) (λ line. Wrote sink line old new)
+    -- The input was a history that isn't legal, and the line that names its first bad entry was
+    -- written and flushed.
+    pub not_legal : status ≡ NOT_LEGAL
+        → StudyTold IsNotLegal words (left before) (left after) (λ line. Wrote sink line old new)
     -- There is no other status.
     pub statuses : IsStatus status
     -- Nothing is read for other words than those that ask for it.
-    pub unread : ¬ ReadsPlan words → after ≡ before
+    pub unread : ¬ Reads words → after ≡ before
     -- Never are more bytes taken, and nothing is read after the end of the source or a fault of it.
     pub taken : GivesAtMost (LONGEST_INPUT + 1) (left before) (left after)
     pub given : (read after).given ≤ (read before).given + (LONGEST_INPUT + 1)
     pub stops : (read before).stops ≡ 0 → (read after).stops ≤ 1
     -- Unless memory ran out or it was too long, an input was read until a read stopped: at its end,
     -- or where the source failed.
-    pub ended : ReadsPlan words → status ≢ NO_MEMORY → status ≢ TOO_LONG
+    pub ended : Reads words → status ≢ NO_MEMORY → status ≢ TOO_LONG
         → (read before).stops ≡ 0 → (read after).stops ≡ 1
     -- By the source's tally an input is too long exactly where so many bytes were read.
     pub too_many : status ≡ TOO_LONG
@@ -96,7 +114,7 @@ module _ {Kept S K : Type 0} (commands : Commands Kept) (source : Source S) (sin
         → ¬ Rises (sink_faults old) (sink_faults new)
         → MustEnd NO_PLAN status
     -- An input that is too long is always refused.
-    pub long_input : ReadsPlan words → (bytes : List ℕ) → left before ≡ Some bytes
+    pub long_input : Reads words → (bytes : List ℕ) → left before ≡ Some bytes
         → LONGEST_INPUT < length bytes
         → ¬ Rises (source_faults before) (source_faults after)
         → MustEnd TOO_LONG status
@@ -109,11 +127,31 @@ module _ {Kept S K : Type 0} (commands : Commands Kept) (source : Source S) (sin
     -- Words that ask for the plan of a number are always answered by its whole summary.
     pub complete_gen : IsSomeGen words → ¬ Rises (sink_faults old) (sink_faults new)
         → MustEnd DONE status
+    -- A schedule is always answered by the whole text of the command, and so is a legal history.
+    pub complete_study : (study : Study) → IsStudy study words → (bytes : List ℕ)
+        → left before ≡ Some bytes → length bytes ≤ LONGEST_INPUT → IsLegalInput study bytes
+        → ¬ Rises (source_faults before) (source_faults after)
+        → ¬ Rises (sink_faults old) (sink_faults new)
+        → MustEnd DONE status
+    -- An input that is none is always answered by the line that says where.
+    pub wrong_text : (study : Study) → IsStudy study words → (bytes : List ℕ)
+        → left before ≡ Some bytes → length bytes ≤ LONGEST_INPUT → ¬ HasForm study bytes
+        → ¬ Rises (source_faults before) (source_faults after)
+        → ¬ Rises (sink_faults old) (sink_faults new)
+        → MustEnd BAD_TEXT status
+    -- A history that isn't legal is always answered by the line that says where.
+    pub illegal_input : (study : Study) → IsStudy study words → (bytes : List ℕ)
+        → left before ≡ Some bytes → length bytes ≤ LONGEST_INPUT → IsIllegalInput study bytes
+        → ¬ Rises (source_faults before) (source_faults after)
+        → ¬ Rises (sink_faults old) (sink_faults new)
+        → MustEnd NOT_LEGAL status
+    -- Of a schedule or a history nothing is kept.
+    pub kept_study : IsSomeStudy words → kept ≡ nothing
     -- With status 0 that is kept whose text was written.
-    pub kept_done : status ≡ DONE
+    pub kept_done : status ≡ DONE → ¬ IsSomeStudy words
         → KeptText words (left before) (left after) kept (λ text. Wrote sink text old new)
     -- Where the sink failed, that is kept whose text broke off, and nothing where no plan was run.
-    pub kept_broken : status ≡ SINK_FAILED
+    pub kept_broken : status ≡ SINK_FAILED → ¬ IsSomeStudy words
         → KeptText words (left before) (left after) kept (λ text. Broke sink text old new)
         ⊎ ((kept ≡ nothing) × IsNoRun words (left before) (left after))
     -- With every other status nothing is kept.

@@ -58,6 +58,7 @@ KeepsWith bytes (verdict.NoPlan line) old new = new ≡ old
 KeepsWith bytes verdict.NoMemory old new = new ≡ old
 KeepsWith bytes verdict.NoCommand old new = new ≡ old
 KeepsWith bytes (verdict.Summary text) old new = new ≡ old
+KeepsWith bytes (verdict.Studied found) old new = new ≡ old
 KeepsWith bytes verdict.SourceFailed old new = new ≡ old
 KeepsWith bytes verdict.TooLong old new = new ≡ old
 
@@ -75,6 +76,7 @@ abbrev pub KeepsFor : ℕ → ℕ → Verdict → Kept → Kept → Type 0
 KeepsFor number jobs (verdict.Summary text) old new = KeepsRun (plan_of_number number jobs) new
 KeepsFor number jobs (verdict.Report text) old new = new ≡ old
 KeepsFor number jobs (verdict.NoPlan line) old new = new ≡ old
+KeepsFor number jobs (verdict.Studied found) old new = new ≡ old
 KeepsFor number jobs verdict.NoMemory old new = new ≡ old
 KeepsFor number jobs verdict.NoCommand old new = new ≡ old
 KeepsFor number jobs verdict.SourceFailed old new = new ≡ old
@@ -105,6 +107,7 @@ Keeps words (verdict.Report text) left after old new =
 Keeps words (verdict.Summary text) left after old new =
     KeptSummary words new (λ made. made ≡ text.items)
 Keeps words (verdict.NoPlan line) left after old new = new ≡ old
+Keeps words (verdict.Studied found) left after old new = new ≡ old
 Keeps words verdict.NoMemory left after old new = new ≡ old
 Keeps words verdict.NoCommand left after old new = new ≡ old
 Keeps words verdict.SourceFailed left after old new = new ≡ old

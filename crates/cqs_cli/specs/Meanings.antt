@@ -6,8 +6,10 @@ use Rattle.cqs_cli_streams.specs.declared.streams.tally.Tally.{Tally}
 use Rattle.cqs_cli.specs.Input.{IsInput}
 use Rattle.cqs_cli.specs.Plans.{IsFaultLine, IsReport}
 use Rattle.cqs_cli.specs.Summaries.{IsSummary}
-use Rattle.cqs_cli.specs.Words.{IsCommand, IsRun, usage}
-use Rattle.cqs_cli.specs.declared.statuses.TheConstants.{DONE, NO_COMMAND, NO_MEMORY, NO_PLAN, SINK_FAILED, SOURCE_FAILED, TOO_LONG}
+use Rattle.cqs_cli.specs.Words.{IsCommand, IsRun, IsStudy, usage}
+use Rattle.cqs_cli.specs.declared.statuses.TheConstants.{BAD_TEXT, DONE, NO_COMMAND, NO_MEMORY, NO_PLAN, NOT_LEGAL, SINK_FAILED, SOURCE_FAILED, TOO_LONG}
+use Rattle.cqs_cli_histories.specs.Studies.{IsBadText, IsNotLegal, IsStudyText}
+use Rattle.cqs_cli_histories.specs.declared.studies.Study.{Study}
 
 -- the input was a plan, and the sink took its whole report
 pub record Reported (left after held now : Option (List ℕ)) : Type 0 where
@@ -23,12 +25,25 @@ pub record Summed (words : List (List ℕ)) (held now : Option (List ℕ)) : Typ
   pub summary : IsSummary words text
   pub written : Gains text held now
 
--- the sink took what the command's words ask for: the report of the plan that was read, or the
--- summary of the plan that was made
+-- the words ask for a study; the input was read, a text for it is of this kind, and of that text
+-- this holds
+pub record StudyTold (Is : Study → List ℕ → List ℕ → Type 0) (words : List (List ℕ))
+    (left after : Option (List ℕ)) (Holds : List ℕ → Type 0) : Type 0 where
+  pub study : Study
+  pub asked : IsStudy study words
+  pub bytes : List ℕ
+  pub input : IsInput bytes left after
+  pub text : List ℕ
+  pub right : Is study bytes text
+  pub holds : Holds text
+
+-- the sink took what the command's words ask for: the report of the plan that was read, the
+-- summary of the plan that was made, or what a study of the schedule or the history came to
 abbrev pub HasTold : List (List ℕ) → Option (List ℕ) → Option (List ℕ) → Option (List ℕ)
     → Option (List ℕ) → Type 0
 HasTold words left after held now =
     (IsRun words × Reported left after held now) ⊎ Summed words held now
+    ⊎ StudyTold IsStudyText words left after (λ text. Gains text held now)
 
 -- the input was no plan, and the sink took the whole line that says why, and counted it
 pub record NamedFault (left after held now : Option (List ℕ)) (old new : Tally) : Type 0 where
@@ -43,12 +58,18 @@ pub record NamedFault (left after held now : Option (List ℕ)) (old new : Tally
 abbrev pub IsAnswer : List ℕ → List ℕ → Type 0
 IsAnswer bytes text = IsReport bytes text ⊎ IsFaultLine bytes text
 
+-- the text that a study of an input calls for
+abbrev pub IsStudyAnswer : Study → List ℕ → List ℕ → Type 0
+IsStudyAnswer study bytes text =
+    IsStudyText study bytes text ⊎ IsBadText study bytes text ⊎ IsNotLegal study bytes text
+
 -- the text that the words and the input call for
 abbrev pub IsDue : List (List ℕ) → Option (List ℕ) → Option (List ℕ) → List ℕ → Type 0
 IsDue words left after text =
     ((¬ IsCommand words) × (text ≡ usage))
     ⊎ (IsRun words × ((bytes : List ℕ) × IsInput bytes left after × IsAnswer bytes text))
     ⊎ IsSummary words text
+    ⊎ StudyTold IsStudyAnswer words left after (λ due. due ≡ text)
 
 -- the sink took a prefix of the text that the words and the input call for, and then it failed
 pub record BrokeOff (words : List (List ℕ)) (left after held now : Option (List ℕ))
@@ -61,7 +82,7 @@ pub record BrokeOff (words : List (List ℕ)) (left after held now : Option (Lis
 -- the statuses that there are
 abbrev pub IsStatus : ℕ → Type 0
 IsStatus = Contains (DONE ∷ NO_COMMAND ∷ NO_PLAN ∷ SOURCE_FAILED ∷ SINK_FAILED ∷ NO_MEMORY
-    ∷ TOO_LONG ∷ [])
+    ∷ TOO_LONG ∷ BAD_TEXT ∷ NOT_LEGAL ∷ [])
 
 -- the status that must come, unless there was no memory
 abbrev pub MustEnd : ℕ → ℕ → Type 0

@@ -7,6 +7,7 @@ ghost use Rattle.cqs_cli.specs.Verdicts.{HasTaken, IsVerdict};
 
 use crate::kept::Kept;
 use crate::plans::judge_input;
+use crate::studying::judge_study;
 use crate::summaries::judge_number;
 use crate::verdict::Verdict;
 use crate::words::{Command, command_of};
@@ -26,6 +27,7 @@ pub fn judge<S: Source>(alloc: Global, words: &[String], source: &mut S, kept: &
     match command_of(words) {
         None => Verdict::NoCommand,
         Some(Command::Gen { number, jobs }) => judge_number(alloc, number, jobs, kept),
+        Some(Command::Read(study)) => judge_study(alloc, study, source),
         Some(Command::Run) => match read_input(alloc, source) {
             Ok(bytes) => judge_input(alloc, &bytes, kept),
             Err(ReadError::Failed) => Verdict::SourceFailed,

@@ -1,4 +1,5 @@
-//! The commands `run` and `gen` of the program `cqs`, over any source and sink.
+//! The commands `run`, `gen`, `replay`, `history` and `check` of the program `cqs`, over any source
+//! and sink.
 //!
 //! ```text
 //!  words, source --- judge ---> a verdict, with its text whole --- tell ---> sink, and a status
@@ -6,9 +7,10 @@
 //!
 //! `judge` reads the words and the source and knows no sink; `tell` knows the sink alone. What each
 //! status means stands on `top_alone`. `kept` is what a call leaves its caller of a run. A plan is
-//! run on the floor of `cqs_floor_alone`. The real streams are in `standard`, the trusted edge.
-//! `Verdict`, `tell` and `read_number` are public for `cqs_cli_top`, which has the command that
-//! needs workers.
+//! run on the floor of `cqs_floor_alone`; what a schedule or a history comes to is told by
+//! `cqs_cli_histories`, and nothing is kept of it. The real streams are in `standard`, the trusted
+//! edge. `Verdict`, `tell` and `read_number` are public for `cqs_cli_top`, which has the command
+//! that needs workers.
 #![tactic(auto)]
 
 mod judging;
@@ -16,6 +18,7 @@ mod kept;
 mod plans;
 mod standard;
 mod statuses;
+mod studying;
 mod summaries;
 mod telling;
 mod top_call;
@@ -25,7 +28,9 @@ mod words;
 pub use cqs_floor_alone::{CoreFloor, QueueFloor};
 pub use kept::Kept;
 pub use standard::{StdinSource, StdoutSink};
-pub use statuses::{DONE, NO_COMMAND, NO_MEMORY, NO_PLAN, SINK_FAILED, SOURCE_FAILED, TOO_LONG};
+pub use statuses::{
+    BAD_TEXT, DONE, NO_COMMAND, NO_MEMORY, NO_PLAN, NOT_LEGAL, SINK_FAILED, SOURCE_FAILED, TOO_LONG,
+};
 pub use telling::tell;
 pub use top_call::top_alone;
 pub use verdict::Verdict;

@@ -1,6 +1,6 @@
 //! The statuses that a process ends with.
 
-/// The input was a plan, and its whole report was written.
+/// The input was what the command reads, and its whole text was written.
 pub const DONE: u8 = 0;
 
 /// The words are no command, and the usage text was written.
@@ -20,3 +20,9 @@ pub const NO_MEMORY: u8 = 6;
 
 /// The input is too long.
 pub const TOO_LONG: u8 = 7;
+
+/// The input was no schedule, or no history, and the line that says where was written.
+pub const BAD_TEXT: u8 = 8;
+
+/// The input was a history that isn't legal, and the line that says where was written.
+pub const NOT_LEGAL: u8 = 9;

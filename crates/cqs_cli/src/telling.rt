@@ -1,10 +1,13 @@
 //! The telling of a verdict: it knows the sink alone.
 
-ghost use Rattle.cqs_cli.specs.Tellings.{Says, Tells};
+ghost use Rattle.cqs_cli.specs.Tellings.{Says, Tells, studied_status, studied_text};
 
-use crate::statuses::{DONE, NO_COMMAND, NO_MEMORY, NO_PLAN, SINK_FAILED, SOURCE_FAILED, TOO_LONG};
+use crate::statuses::{
+    BAD_TEXT, DONE, NO_COMMAND, NO_MEMORY, NO_PLAN, NOT_LEGAL, SINK_FAILED, SOURCE_FAILED, TOO_LONG,
+};
 use crate::verdict::Verdict;
 use crate::words::USAGE;
+use cqs_cli_histories::Studied;
 use cqs_cli_streams::{Sink, write_all};
 
 /// Writes what a verdict has to say, and gives the status that the call ends with.
@@ -16,9 +19,22 @@ pub fn tell<K: Sink>(sink: &mut K, verdict: &Verdict) -> u8
         Verdict::Report(text) => say(sink, text.as_slice(), DONE),
         Verdict::Summary(text) => say(sink, text.as_slice(), DONE),
         Verdict::NoPlan(line) => say(sink, line.as_slice(), NO_PLAN),
+        Verdict::Studied(studied) => tell_studied(sink, studied),
         Verdict::SourceFailed => SOURCE_FAILED,
         Verdict::NoMemory => NO_MEMORY,
         Verdict::TooLong => TOO_LONG,
+    }
+}
+
+/// Writes what the study of an input came to.
+fn tell_studied<K: Sink>(sink: &mut K, studied: &Studied) -> u8
+    ensures { Says K.Sink (studied_text studied.now) (studied_status studied.now) result
+        sink.old sink.new }
+{
+    match studied {
+        Studied::Text(text) => say(sink, text.as_slice(), DONE),
+        Studied::BadText(line) => say(sink, line.as_slice(), BAD_TEXT),
+        Studied::NotLegal(line) => say(sink, line.as_slice(), NOT_LEGAL),
     }
 }
 

@@ -34,7 +34,8 @@ pub fn top_alone<S: Source, K: Sink>(
 
     // Status 0 means: the bytes read are a plan, and the text written, whole and flushed, is the
     // report of the turn machine on it, over plain resources with legal histories; or the words ask
-    // for the plan of a number, and the text is the summary of its report.
+    // for the plan of a number, and the text is the summary of its report; or they ask for a
+    // schedule or a history to be read, and the text is what that comes to.
     ensures headline { result ≡ DONE → HasTold (map string_bytes words.now)
         (S.left source.old) (S.left source.new) (K.held sink.old) (K.held sink.new)
         × IsTrue (K.is_flushed sink.new) }

@@ -1,5 +1,7 @@
 //! What a call of the program comes to.
 
+use cqs_cli_histories::Studied;
+
 /// What a call comes to, before anything is written.
 #[derive(Drop)]
 pub enum Verdict {
@@ -11,6 +13,8 @@ pub enum Verdict {
     Summary(Vec<u8>),
     /// The input is no plan, and this line says what is wrong with it.
     NoPlan(Vec<u8>),
+    /// The input was read as a schedule or a history, and this is to be written for it.
+    Studied(Studied),
     /// The source failed. Nothing is to be written.
     SourceFailed,
     /// There was no memory. Nothing is to be written.

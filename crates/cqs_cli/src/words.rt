@@ -3,11 +3,13 @@
 ghost use Rattle.std.specs.Prelude.{map, string_bytes, ◌∷◌, []};
 ghost use Rattle.cqs_cli.specs.Words.{IsCommandOf, IsGenOf, IsNumberOf};
 
+use cqs_cli_histories::Study;
 use itoa::Buffer;
 
 /// What is written where the words are no command.
 pub const USAGE: &str =
-    "usage: cqs run\n       cqs work [--workers N]\n       cqs gen --number N --jobs M\n";
+    "usage: cqs run\n       cqs work [--workers N]\n       cqs gen --number N --jobs M\
+     \n       cqs replay\n       cqs history\n       cqs check\n";
 
 /// A command of the program.
 #[derive(Drop)]
@@ -16,6 +18,8 @@ pub enum Command {
     Run,
     /// Makes the plan of a number, with so many jobs, and writes a summary of its run.
     Gen { number: u32, jobs: u32 },
+    /// Reads a schedule or a history, and writes what this study of it comes to.
+    Read(Study),
 }
 
 /// The command that the words are, if they are one.
@@ -23,7 +27,7 @@ pub fn command_of(words: &[String]) -> Option<Command>
     ensures { IsCommandOf (map string_bytes words.now) result }
 {
     match words {
-        [word] => read_run(word.as_str()),
+        [word] => read_word(word.as_str()),
         [word, first, number, second, other] => {
             read_gen(
                 word.as_str(),
@@ -38,11 +42,17 @@ pub fn command_of(words: &[String]) -> Option<Command>
 }
 
 /// The command of one word.
-fn read_run(word: &str) -> Option<Command>
+fn read_word(word: &str) -> Option<Command>
     ensures { IsCommandOf (word.now ∷ []) result }
 {
     if word == "run" {
         Some(Command::Run)
+    } else if word == "replay" {
+        Some(Command::Read(Study::Replay))
+    } else if word == "history" {
+        Some(Command::Read(Study::History))
+    } else if word == "check" {
+        Some(Command::Read(Study::Check))
     } else {
         None
     }

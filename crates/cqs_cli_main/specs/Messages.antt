@@ -1,5 +1,5 @@
 -- What is told on standard error.
-use Rattle.std.specs.Prelude.{◌≡◌, ℕ, ◌⊎◌, List, [], ◌∷◌, length, codes, Option, ◌==◌, if◌then◌else◌}
+use Rattle.std.specs.Prelude.{◌≡◌, ℕ, ◌⊎◌, List, [], ◌∷◌, ◌++◌, length, codes, Option, ◌==◌, if◌then◌else◌}
 use Rattle.std.specs.Str.{bytes_eq}
 use Rattle.cqs_cli_streams.specs.Stream.{Gains, GainsPrefix, Rises}
 use Rattle.cqs_cli_streams.specs.Tally.{StopsAfter}
@@ -18,7 +18,14 @@ wrong_after first =
     codes "cqs: work may have --workers N, N from 1 to 16: cqs work --workers 4 < plan.toml\n"
     else if bytes_eq first (codes "gen") then
     codes "cqs: gen has --number N, 0 to 2147483647, and --jobs M, 1 to 4096, in digits\n"
-    else codes "cqs: the first word is run, work or gen, and all are UTF-8: cqs run < plan.toml\n"
+    else if bytes_eq first (codes "replay") then
+    codes "cqs: replay has no more words; it reads a schedule: cqs replay < core.schedule\n"
+    else if bytes_eq first (codes "history") then
+    codes "cqs: history has no more words; it reads a schedule: cqs history < core.schedule\n"
+    else if bytes_eq first (codes "check") then
+    codes "cqs: check has no more words; it reads a history: cqs check < log.history\n"
+    else codes "cqs: the first word is run, work, gen, replay, history or check, "
+    ++ codes "and all are UTF-8: cqs run < plan.toml\n"
 
 abbrev pub wrong_words : List (List ℕ) → List ℕ
 wrong_words [] = wrong_after []
@@ -32,7 +39,7 @@ message words status =
     else if status == SOURCE_FAILED then codes "cqs: standard input could not be read\n"
     else if status == SINK_FAILED then codes "cqs: standard output could not be written\n"
     else if status == NO_MEMORY then codes "cqs: out of memory\n"
-    else if status == TOO_LONG then codes "cqs: the plan is longer than 1,048,576 bytes\n"
+    else if status == TOO_LONG then codes "cqs: the input is longer than 1,048,576 bytes\n"
     else []
 
 -- a sink was handed this text: it took all of it where it counted no fault, and a prefix in any

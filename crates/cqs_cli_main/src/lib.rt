@@ -12,6 +12,7 @@ mod running;
 mod stderr_sink;
 mod words;
 
+pub use cqs_cli::{StdinSource, StdoutSink};
 pub use cqs_cli_top::Kept;
 pub use explaining::explain;
 pub use input_source::{InputSource, Remembers};

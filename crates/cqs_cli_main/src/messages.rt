@@ -18,7 +18,7 @@ pub fn message_of(words: &[String], status: u8) -> &'static str
         SOURCE_FAILED => "cqs: standard input could not be read\n",
         SINK_FAILED => "cqs: standard output could not be written\n",
         NO_MEMORY => "cqs: out of memory\n",
-        TOO_LONG => "cqs: the plan is longer than 1,048,576 bytes\n",
+        TOO_LONG => "cqs: the input is longer than 1,048,576 bytes\n",
         _ => "",
     }
 }
@@ -44,7 +44,17 @@ fn wrong_after(first: &str) -> &'static str
             "cqs: work may have --workers N, N from 1 to 16: cqs work --workers 4 < plan.toml\n"
         }
         "gen" => "cqs: gen has --number N, 0 to 2147483647, and --jobs M, 1 to 4096, in digits\n",
-        _ => "cqs: the first word is run, work or gen, and all are UTF-8: cqs run < plan.toml\n",
+        "replay" => {
+            "cqs: replay has no more words; it reads a schedule: cqs replay < core.schedule\n"
+        }
+        "history" => {
+            "cqs: history has no more words; it reads a schedule: cqs history < core.schedule\n"
+        }
+        "check" => "cqs: check has no more words; it reads a history: cqs check < log.history\n",
+        _ => {
+            "cqs: the first word is run, work, gen, replay, history or check, and all are UTF-8: \
+             cqs run < plan.toml\n"
+        }
     }
 }
 

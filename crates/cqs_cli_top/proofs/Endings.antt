@@ -1,5 +1,5 @@
 -- A verdict on the work of a plan that is right and was told is a call of the program.
-use Rattle.std.proofs.Common.{◌≡◌, ℕ, ◌+◌, ◌≤◌, ◌⊎◌, inl, inr, List, length, Some, IsTrue, ◌∙◌, sym, subst, arith, rules}
+use Rattle.std.proofs.Common.{◌≡◌, ℕ, ◌+◌, ◌≤◌, ◌⊎◌, inl, inr, List, length, Some, [], ◌∷◌, codes, decimal, IsTrue, ◌∙◌, sym, subst, arith, rules}
 use Rattle.cqs_cli_streams.specs.Counts.{Rises}
 use Rattle.cqs_cli_streams.specs.Stream.{GivesAtMost}
 use Rattle.cqs_cli_streams.specs.declared.streams.reading.TheConstants.{LONGEST_INPUT}
@@ -11,10 +11,13 @@ use Rattle.cqs_cli.specs.Meanings.{IsStatus, MustEnd}
 use Rattle.cqs_cli.specs.Plans.{IsPlan}
 use Rattle.cqs_cli.specs.Tellings.{Broke, Tells, Wrote}
 use Rattle.cqs_cli.specs.Verdicts.{HasTaken}
+use Rattle.cqs_cli.specs.Words.{IsSomeStudy}
 use Rattle.cqs_cli.specs.declared.verdict.Verdict.{Verdict}
 use Rattle.cqs_cli.specs.declared.verdict.Verdict.TheVariants as verdict
+use Rattle.cqs_cli.proofs.Inputs.{gave-as-many, input-told}
 use Rattle.cqs_cli.proofs.MeaningLemmas.{all_statuses, stops-once}
 use Rattle.cqs_cli.proofs.PlanLemmas.{plan_has_no_fault}
+use Rattle.cqs_cli.proofs.WordLemmas.{begun-is-no-study}
 use Rattle.cqs_floor_shared.specs.Shared.{Shared}
 use Rattle.cqs_cli_top.specs.Commands.{commands_over}
 use Rattle.cqs_cli_top.specs.declared.kept.Kept.{Kept}
@@ -23,8 +26,14 @@ use Rattle.cqs_cli_top.specs.KeptWorks.{IsNoPlan, KeptWork}
 use Rattle.cqs_cli_top.specs.Meanings.{WorkBroke, WorkTold}
 use Rattle.cqs_cli_top.specs.Verdicts.{IsVerdict}
 use Rattle.cqs_cli_top.specs.Words.{IsWork}
-use Rattle.cqs_cli_top.proofs.Inputs.{gave-as-many, input-told}
 use Rattle.cqs_cli_top.proofs.Works.{of-kept}
+
+-- no words ask for workers and for a study
+work-is-no-study : (workers : ℕ) (words : List (List ℕ)) → IsWork workers words → IsSomeStudy words → ⊥
+work-is-no-study workers words work some = elim work.spelled [
+  | inl alone ↦ begun-is-no-study words [] alone.0 some
+  | inr more ↦ begun-is-no-study words (codes "--workers" ∷ decimal workers ∷ []) more some
+]
 
 module _ {S K F : Type 0} (shared : F → Shared) (of_source : Source S) (of_sink : Sink K) (workers : ℕ)
     (source source_after : S) (sink sink_after : K) (kept kept_after : Kept F) where
@@ -51,6 +60,7 @@ module _ {S K F : Type 0} (shared : F → Shared) (of_source : Source S) (of_sin
   is_status verdict.TooLong status (judged, (is, untouched)) = subst IsStatus (sym is) all_statuses.6
   is_status verdict.NoCommand status (judged, told) = absurd judged
   is_status (verdict.Summary text) status (judged, told) = absurd judged
+  is_status (verdict.Studied found) status (judged, told) = absurd judged
 
   -- with status 0 the whole text was written of what is kept
   pub kept_done : (given : Verdict) (status : ℕ) → Ends given status → status ≡ 0
@@ -66,6 +76,7 @@ module _ {S K F : Type 0} (shared : F → Shared) (of_source : Source S) (of_sin
   kept_done verdict.TooLong status (judged, (is, untouched)) zero = absurd (omega (arith, is, zero))
   kept_done verdict.NoCommand status (judged, told) zero = absurd judged
   kept_done (verdict.Summary text) status (judged, told) zero = absurd judged
+  kept_done (verdict.Studied found) status (judged, told) zero = absurd judged
 
   pub headline : (given : Verdict) (status : ℕ) → Ends given status → status ≡ 0
       → WorkTold workers (left source) (left source_after) (held sink) (held sink_after)
@@ -116,6 +127,7 @@ module _ {S K F : Type 0} (shared : F → Shared) (of_source : Source S) (of_sin
   broke_off verdict.TooLong status (judged, (is, untouched)) five = absurd (omega (arith, is, five))
   broke_off verdict.NoCommand status (judged, told) five = absurd judged
   broke_off (verdict.Summary text) status (judged, told) five = absurd judged
+  broke_off (verdict.Studied found) status (judged, told) five = absurd judged
 
   -- where the sink failed, that is kept whose text broke off, and nothing where the input is no plan
   pub kept_broken : (given : Verdict) (status : ℕ) → Ends given status → kept ≡ Nothing → status ≡ 5
@@ -138,6 +150,7 @@ module _ {S K F : Type 0} (shared : F → Shared) (of_source : Source S) (of_sin
   kept_broken verdict.TooLong status (judged, (is, untouched)) empty five = absurd (omega (arith, is, five))
   kept_broken verdict.NoCommand status (judged, told) empty five = absurd judged
   kept_broken (verdict.Summary text) status (judged, told) empty five = absurd judged
+  kept_broken (verdict.Studied found) status (judged, told) empty five = absurd judged
 
   -- unless memory ran out or it was too long, the input was read until a read stopped
   pub was-ended : (given : Verdict) (status : ℕ) → Ends given status → (old new : Tally) → HasTaken given old new
@@ -149,6 +162,7 @@ module _ {S K F : Type 0} (shared : F → Shared) (of_source : Source S) (of_sin
   was-ended verdict.TooLong status (judged, (is, untouched)) old new taken room short none = absurd (short is)
   was-ended verdict.NoCommand status (judged, told) old new taken room short none = absurd judged
   was-ended (verdict.Summary text) status (judged, told) old new taken room short none = absurd judged
+  was-ended (verdict.Studied found) status (judged, told) old new taken room short none = absurd judged
 
   -- what must come of an input that the source told and that is no plan, where no fault came
   pub answers_fault : (given : Verdict) (status : ℕ) → Ends given status → (bytes : List ℕ)
@@ -169,6 +183,7 @@ module _ {S K F : Type 0} (shared : F → Shared) (of_source : Source S) (of_sin
       absurd (omega (arith, few, as_many))
   answers_fault verdict.NoCommand status (judged, told) bytes tells few no_plan calm quiet = absurd judged
   answers_fault (verdict.Summary text) status (judged, told) bytes tells few no_plan calm quiet = absurd judged
+  answers_fault (verdict.Studied found) status (judged, told) bytes tells few no_plan calm quiet = absurd judged
 
   -- what must come of a plan that the source told, where no fault came
   pub answers_plan : (given : Verdict) (status : ℕ) → Ends given status → (bytes : List ℕ)
@@ -188,6 +203,20 @@ module _ {S K F : Type 0} (shared : F → Shared) (of_source : Source S) (of_sin
       absurd (omega (arith, few, as_many))
   answers_plan verdict.NoCommand status (judged, told) bytes tells few plan calm quiet = absurd judged
   answers_plan (verdict.Summary text) status (judged, told) bytes tells few plan calm quiet = absurd judged
+  answers_plan (verdict.Studied found) status (judged, told) bytes tells few plan calm quiet = absurd judged
+
+  -- a status above 7 is that of no plan
+  low-status : (given : Verdict) (status : ℕ) → Ends given status → 8 ≤ status → ⊥
+  low-status (verdict.Report text) status (judged, inl (is, wrote)) high = omega (arith, is, high)
+  low-status (verdict.Report text) status (judged, inr (is, broke)) high = omega (arith, is, high)
+  low-status (verdict.NoPlan line) status (judged, inl (is, wrote)) high = omega (arith, is, high)
+  low-status (verdict.NoPlan line) status (judged, inr (is, broke)) high = omega (arith, is, high)
+  low-status verdict.SourceFailed status (judged, (is, untouched)) high = omega (arith, is, high)
+  low-status verdict.NoMemory status (judged, (is, untouched)) high = omega (arith, is, high)
+  low-status verdict.TooLong status (judged, (is, untouched)) high = omega (arith, is, high)
+  low-status verdict.NoCommand status (judged, told) high = absurd judged
+  low-status (verdict.Summary text) status (judged, told) high = absurd judged
+  low-status (verdict.Studied found) status (judged, told) high = absurd judged
 
   -- the whole contract of a call, for words that ask for so many workers
   pub is_call : (given : Verdict) (status : ℕ) → Ends given status
@@ -205,7 +234,10 @@ module _ {S K F : Type 0} (shared : F → Shared) (of_source : Source S) (of_sin
     no_memory = search rules;
     too_long = search rules;
     statuses = is_status given status ended;
-    unread = λ other. absurd (other (inr (workers, asked)));
+    studied = λ zero some. absurd (work-is-no-study workers words asked some);
+    bad_text = λ eight. absurd (low-status given status ended (omega (arith, eight)));
+    not_legal = λ nine. absurd (low-status given status ended (omega (arith, nine)));
+    unread = λ other. absurd (other (inl (inr (workers, asked))));
     taken = taken;
     given = search rules;
     stops = search rules;
@@ -220,8 +252,12 @@ module _ {S K F : Type 0} (shared : F → Shared) (of_source : Source S) (of_sin
     long_input = search rules;
     complete = λ reads. answers_plan given status ended;
     complete_gen = search rules;
-    kept_done = λ zero. inr (workers, (asked, kept_done given status ended zero));
-    kept_broken = λ five. elim (kept_broken given status ended empty five) [
+    complete_study = λ study of_study. absurd (work-is-no-study workers words asked (study, of_study));
+    wrong_text = λ study of_study. absurd (work-is-no-study workers words asked (study, of_study));
+    illegal_input = λ study of_study. absurd (work-is-no-study workers words asked (study, of_study));
+    kept_study = λ some. absurd (work-is-no-study workers words asked some);
+    kept_done = λ zero no_study. inr (workers, (asked, kept_done given status ended zero));
+    kept_broken = λ five no_study. elim (kept_broken given status ended empty five) [
       | inl of_text ↦ inl (inr (workers, (asked, of_text)))
       | inr (nothing, no_plan) ↦ inr (nothing, inr ((workers, asked), no_plan))
     ];

@@ -1,4 +1,3 @@
-pub mod Inputs
 pub mod Works
 pub mod Endings
 pub mod Alone

@@ -21,6 +21,7 @@ module _ {F : Type 0} (shared : F → Shared) where
   IsVerdictOn bytes workers verdict.NoMemory old new = new ≡ old
   IsVerdictOn bytes workers verdict.NoCommand old new = ⊥
   IsVerdictOn bytes workers (verdict.Summary text) old new = ⊥
+  IsVerdictOn bytes workers (verdict.Studied found) old new = ⊥
   IsVerdictOn bytes workers verdict.SourceFailed old new = ⊥
   IsVerdictOn bytes workers verdict.TooLong old new = ⊥
 
@@ -50,3 +51,4 @@ module _ {F : Type 0} (shared : F → Shared) where
       × IsJudged (verdict.NoPlan line) workers (left source) (left after) old new
   IsVerdict left faults workers verdict.NoCommand source after old new = ⊥
   IsVerdict left faults workers (verdict.Summary text) source after old new = ⊥
+  IsVerdict left faults workers (verdict.Studied found) source after old new = ⊥

@@ -19,10 +19,10 @@ use std::thread::Threads;
 /// One call of the program: does what the words say and gives the status
 /// that the process ends with.
 ///
-/// Its contract is that of `top_alone`, for all commands. Status 0 then means of the words of `run`
-/// and `gen` what it means there; or the words ask for workers, and the text that was written,
-/// whole and flushed, is that of what so many left of the plan that was read: each worker's jobs
-/// ended as the turn machine says over answers that stand in legal histories.
+/// Its contract is that of `top_alone`, for all commands. Status 0 then means of all other words
+/// than those of `work` what it means there; or the words ask for workers, and the text that was
+/// written, whole and flushed, is that of what so many left of the plan that was read: each
+/// worker's jobs ended as the turn machine says over answers that stand in legal histories.
 ///
 /// The words of `work` have workers run the plan, each in a thread of its own where one can be made
 /// and on a floor of its own, and so they may wait; all other words are done by `top_alone`. What

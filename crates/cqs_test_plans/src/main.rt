@@ -41,7 +41,7 @@ use std::fs;
 use std::rt::Files;
 
 /// The files of cases, each of which ends with `.cases`.
-const TABLES: [&str; 14] = [
+const TABLES: [&str; 15] = [
     "plans",
     "deadlines",
     "faults",
@@ -56,6 +56,7 @@ const TABLES: [&str; 14] = [
     "too-many",
     "streams",
     "numbers",
+    "histories",
 ];
 
 /// Runs the cases of a file, and prints how many there are, and the place of each that

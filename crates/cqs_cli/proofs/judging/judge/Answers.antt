@@ -15,6 +15,7 @@ taken_for bytes (verdict.NoPlan line) old new right stops = stops
 taken_for bytes verdict.NoMemory old new right stops =
     (omega (arith, stops.few), λ none. let one = stops.stops none in omega (arith, one))
 taken_for bytes (verdict.Summary text) old new right stops = absurd right
+taken_for bytes (verdict.Studied found) old new right stops = absurd right
 taken_for bytes verdict.NoCommand old new right stops = absurd right
 taken_for bytes verdict.SourceFailed old new right stops = absurd right
 taken_for bytes verdict.TooLong old new right stops = absurd right

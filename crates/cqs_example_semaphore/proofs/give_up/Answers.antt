@@ -62,3 +62,17 @@ returns-in-Cancelled-Some c =
         waits_are = rest.waits_are;
       };
     }
+
+-- the permit had come before the wait was cancelled
+pub returns-in-TooLate : goal.returns-in-TooLate
+returns-in-TooLate c =
+    let k = (place_of c.args.wait).index in
+    let told = rw c.in-TooLate.is at c.cancel.ensures.cancelled in
+    let rests = told.2.3 in record {
+      ended = record {
+        belongs = c.cancel.ensures.belongs;
+        ready = rests.ready;
+        held_is = rests.held_is;
+        waits_are = rests.waits_are ∙ (ap (without k) c.requires.waits.0.waits_are ∙ without-one k);
+      };
+    }

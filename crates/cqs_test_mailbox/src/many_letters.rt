@@ -1,5 +1,5 @@
-//! Many letters of one post, on one thread: each is received and acknowledged, and its envelope is
-//! given back, before the next one is sent.
+//! A million letters of one post, on one thread: each is received and acknowledged before the next
+//! one is sent, with the envelope that came back.
 
 ghost use Rattle.cqs_mailbox.specs.Mailboxes.{IsDeskOf};
 ghost use Rattle.cqs_test_mailbox.specs.Posts.{HasSpare, IsAtRest};
@@ -12,7 +12,7 @@ use std::process::Abort;
 use std::sync::Wait;
 use std::test::Fail;
 
-const LETTERS: u64 = 100_000;
+const LETTERS: u64 = 1_000_000;
 
 // The post has its envelope back.
 fn reclaim(rt: &(impl Abort + Wait), mailbox: &Mailbox, post: &mut Post) -> Envelope
@@ -31,38 +31,39 @@ fn deliver(
     mailbox: &Mailbox,
     desk: &mut Desk,
     post: &mut Post,
+    envelope: Envelope,
     number: u64,
-)
+) -> Envelope
     requires desk { IsDeskOf mailbox.now desk.old }
-    requires rest { IsAtRest mailbox.now post.old }
+    requires spare { HasSpare mailbox.now envelope post.old }
     ensures desk { IsDeskOf mailbox.now desk.new }
-    ensures rest { IsAtRest mailbox.now post.new }
+    ensures spare { HasSpare mailbox.now result post.new }
 {
-    let envelope = get_room(rt, mailbox, post);
     send(rt, mailbox, post, envelope, (number, number));
     receive(rt, mailbox, desk, letter(number, number));
     acknowledge(rt, mailbox, desk, 0);
-    let envelope = reclaim(rt, mailbox, post);
-    give_back(mailbox, post, envelope);
+    reclaim(rt, mailbox, post)
 }
 
-// All letters go so. Then the post is met, and nothing is left.
+// All letters go so. Then the post gives its envelope back and is met, and nothing is left.
 fn deliver_all(rt: &(impl Abort + Wait), mailbox: &Mailbox, given: Desk, first: Post)
     requires desk { IsDeskOf mailbox.now given }
     requires rest { IsAtRest mailbox.now first }
 {
     let mut desk = given;
     let mut post = first;
+    let mut envelope = get_room(rt, mailbox, &mut post);
     for number in 0..LETTERS {
-        deliver(rt, mailbox, &mut desk, &mut post, number);
+        envelope = deliver(rt, mailbox, &mut desk, &mut post, envelope, number);
     }
+    give_back(mailbox, &mut post, envelope);
     take_in(rt, mailbox, &mut desk, post);
     find_empty(rt, mailbox, &mut desk);
 }
 
 #[test]
-fn many_letters(rt: HostRuntime) -> Result<(), Fail> {
-    let (mailbox, desk, post) = Mailbox::new(rt.alloc(), 4, 2, 1 << 17)?;
+fn a_million_letters(rt: HostRuntime) -> Result<(), Fail> {
+    let (mailbox, desk, post) = Mailbox::new(rt.alloc(), 1, 2, 1)?;
     deliver_all(&rt, &mailbox, desk, post);
     Ok(())
 }

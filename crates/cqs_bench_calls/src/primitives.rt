@@ -7,6 +7,7 @@
 mod barriers;
 mod contended;
 mod latches;
+mod mailboxes;
 mod mutexes;
 mod pools;
 mod rounds;
@@ -40,6 +41,7 @@ enum Alone {
     Wakes(Wakes),
     Mutex,
     Pool,
+    Mailbox,
 }
 
 fn alone_of(word: &str) -> Option<Alone> {
@@ -53,6 +55,7 @@ fn alone_of(word: &str) -> Option<Alone> {
         "wake-never" => Some(Alone::Wakes(Wakes::Never)),
         "mutex-free" => Some(Alone::Mutex),
         "pool-free" => Some(Alone::Pool),
+        "mailbox-free" => Some(Alone::Mailbox),
         _ => None,
     }
 }
@@ -64,6 +67,7 @@ enum Crew {
     Pool,
     Latch,
     Barrier,
+    Mailbox,
 }
 
 fn crew_of(word: &str) -> Option<Crew> {
@@ -72,6 +76,7 @@ fn crew_of(word: &str) -> Option<Crew> {
         "pool" => Some(Crew::Pool),
         "latch" => Some(Crew::Latch),
         "barrier" => Some(Crew::Barrier),
+        "mailbox" => Some(Crew::Mailbox),
         _ => None,
     }
 }
@@ -83,6 +88,17 @@ fn threads_of(crew: Crew) -> &'static [u32] {
         Crew::Pool => &[4, 8],
         Crew::Latch => &[latches::THREADS],
         Crew::Barrier => &[barriers::THREADS],
+        Crew::Mailbox => &[2, 5],
+    }
+}
+
+/// How those wait who are measured. Nobody sleeps at a mailbox.
+fn waitings_of(crew: Crew) -> &'static [Waiting] {
+    match crew {
+        Crew::Semaphore | Crew::Pool | Crew::Latch | Crew::Barrier => {
+            &[Waiting::Looks, Waiting::Sleeps]
+        }
+        Crew::Mailbox => &[Waiting::Looks],
     }
 }
 
@@ -95,13 +111,18 @@ fn rounds_of(crew: Crew, waiting: Waiting, count: u64) -> u64 {
     }
 }
 
-fn time_alone<R: Clock + AllocGlobal>(rt: &R, alone: Alone, count: u64) -> anyhow::Result<u64> {
+fn time_alone<R: Clock + Wait + AllocGlobal>(
+    rt: &R,
+    alone: Alone,
+    count: u64,
+) -> anyhow::Result<u64> {
     match alone {
         Alone::Semaphore(round) => semaphores::time(rt, round, count),
         Alone::Line => semaphores::time_waiting(rt, count),
         Alone::Wakes(wakes) => wakes::time(rt, wakes, count),
         Alone::Mutex => mutexes::time_free(rt, count),
         Alone::Pool => pools::time_free(rt, count),
+        Alone::Mailbox => mailboxes::time_free(rt, count),
     }
 }
 
@@ -117,11 +138,12 @@ fn time_crew<R: Clock + Threads + Wait + Sync + AllocGlobal>(
         Crew::Pool => pools::time_crew(rt, threads, waiting, count),
         Crew::Latch => latches::time_crew(rt, waiting, count),
         Crew::Barrier => barriers::time_crew(rt, waiting, count),
+        Crew::Mailbox => mailboxes::time_crew(rt, threads, count),
     }
 }
 
 /// A row of rounds that one thread makes.
-fn tell_alone<R: Clock + Print + AllocGlobal>(
+fn tell_alone<R: Clock + Wait + Print + AllocGlobal>(
     rt: &R,
     word: &str,
     alone: Alone,
@@ -135,7 +157,7 @@ fn tell_alone<R: Clock + Print + AllocGlobal>(
     tell(rt, "ours", word, 1, times, count)
 }
 
-/// A row for each number of threads, by those who look and by those who sleep.
+/// A row for each number of threads and each way to wait.
 fn tell_crew<R: Clock + Threads + Wait + Sync + Print + AllocGlobal>(
     rt: &R,
     word: &str,
@@ -144,11 +166,11 @@ fn tell_crew<R: Clock + Threads + Wait + Sync + Print + AllocGlobal>(
     runs: u32,
 ) -> anyhow::Result<()> {
     for threads in threads_of(crew) {
-        for waiting in [Waiting::Looks, Waiting::Sleeps] {
-            let count = rounds_of(crew, waiting, count);
+        for waiting in waitings_of(crew) {
+            let count = rounds_of(crew, *waiting, count);
             let mut times = Vec::new(rt.alloc());
             for _ in 0..runs {
-                times.push(each(time_crew(rt, crew, *threads, waiting, count)?, count))?;
+                times.push(each(time_crew(rt, crew, *threads, *waiting, count)?, count))?;
             }
             tell(rt, waiting.peer(), word, *threads, times, count)?;
         }

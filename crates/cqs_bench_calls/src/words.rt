@@ -6,7 +6,8 @@ use std::process::ExitCode;
 
 const USAGE: &str = "usage: cqs_bench_calls queue free | pairs | leaves [ROUNDS]\n       \
     cqs_bench_calls primitives free | leave | leave-behind | served | waiting | wake-guarded \
-    | wake-never | mutex-free | pool-free | contended | pool | latch | barrier [ROUNDS [RUNS]]";
+    | wake-never | mutex-free | pool-free | mailbox-free | contended | pool | latch | barrier \
+    | mailbox [ROUNDS [RUNS]]";
 
 const BAD_COMMAND: u8 = 2;
 

@@ -146,6 +146,15 @@ fn main() {
             drop(guard);
         });
     }
+    bench.alone("std", "mailbox-free", |count| {
+        let (sender, receiver) = sync_channel::<Letter>(ROOM);
+        clock(|| {
+            for number in 0..count {
+                sender.try_send((0, number, 1)).unwrap();
+                assert!(receiver.try_recv().unwrap().2 == 1);
+            }
+        })
+    });
     for senders in [1, 4] {
         let open = || sync_channel::<Letter>(ROOM);
         let send_so = |sender: &SyncSender<Letter>, letter| look_until(|| sender.try_send(letter).ok());

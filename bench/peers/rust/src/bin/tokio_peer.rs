@@ -77,6 +77,15 @@ fn main() {
             }
         })
     });
+    bench.alone("tokio", "mailbox-free", |count| {
+        let (sender, mut receiver) = mpsc::channel::<Letter>(ROOM);
+        clock(|| {
+            for number in 0..count {
+                sender.try_send((0, number, 1)).unwrap();
+                assert!(receiver.try_recv().unwrap().2 == 1);
+            }
+        })
+    });
     for (peer, waiting) in [("tokio-poll", Waiting::Looks), ("tokio-park", Waiting::Sleeps)] {
         for threads in [1, 2, 4] {
             let semaphore = Semaphore::new(1);

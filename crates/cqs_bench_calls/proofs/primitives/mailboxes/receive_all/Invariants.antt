@@ -1,0 +1,6 @@
+use Rattle.cqs_mailbox.specs.Mailboxes.{IsDeskOf}
+use Rattle.cqs_bench_calls.proofs.primitives.mailboxes.receive_all.Given as goal
+
+-- between two letters the desk is that of the mailbox
+abbrev pub invariant-loop : goal.invariant-loop
+invariant-loop g l = record { desk : IsDeskOf l.mailbox l.desk }

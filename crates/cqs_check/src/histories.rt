@@ -4,8 +4,8 @@ ghost use Rattle.std.specs.Prelude.{◌≡◌, ◌≤◌, ◌<◌, ◌^◌, IfOk
 ghost use Rattle.cqs_check.specs.Verdicts.{Checks};
 
 use crate::judge::Judge;
-use cqs_core::Entry;
-use std::alloc::{AllocError, Global};
+use cqs_core::{Entry, Memory};
+use std::alloc::Global;
 
 /// What was found of a history.
 #[derive(Clone, Copy)]
@@ -24,7 +24,7 @@ pub enum Checked {
 }
 
 /// Judges a history of a semaphore with so many permits.
-pub fn check_history(alloc: Global, permits: u32, entries: &[Entry]) -> Result<Checked, AllocError>
+pub fn check_history(alloc: Global, permits: u32, entries: &[Entry]) -> Result<Checked, Memory>
     requires permits { permits ≤ 1048576 }
     requires few { length entries.now < 2 ^ 32 }
     ensures { IfOk result (λ checked. Checks permits entries.now checked) }

@@ -5,34 +5,34 @@ ghost use Rattle.cqs_core.specs.SemaphoreTable.{step};
 ghost use Rattle.cqs_replay.specs.Runs.{IsMade, after_events, opened};
 
 use crate::schedules::Schedule;
-use cqs_core::{CoreError, Event, Outcome};
+use cqs_core::{CoreError, Event, Memory, Outcome};
 use cqs_core_run::Core;
-use std::alloc::{AllocError, Global};
+use std::alloc::Global;
 
 /// The core that a schedule begins with.
-pub fn open(alloc: Global, schedule: &Schedule) -> Result<Core, AllocError>
+pub fn open(alloc: Global, schedule: &Schedule) -> Result<Core, Memory>
     ensures { IfOk result (λ core. core.shape ≡ opened schedule.now) }
 {
     match Core::new(alloc, schedule.permits, schedule.passes) {
         Ok(core) => Ok(core),
-        Err(_) => Err(AllocError),
+        Err(_) => Err(Memory),
     }
 }
 
 /// Makes an event; none where it isn't enabled.
-pub fn make(core: &mut Core, event: Event) -> Result<Option<Outcome>, AllocError>
+pub fn make(core: &mut Core, event: Event) -> Result<Option<Outcome>, Memory>
     ensures { IfOk result
         (λ told. IsMade (step core.old.shape event) core.old.shape told core.new.shape) }
 {
     match core.step(event) {
         Ok(outcome) => Ok(Some(outcome)),
         Err(CoreError::NotEnabled) => Ok(None),
-        Err(_) => Err(AllocError),
+        Err(_) => Err(Memory),
     }
 }
 
 /// Makes the events, up to the first that isn't enabled.
-pub fn run_events(core: &mut Core, events: &[Event]) -> Result<(), AllocError>
+pub fn run_events(core: &mut Core, events: &[Event]) -> Result<(), Memory>
     ensures { OnOk result (core.new.shape ≡ after_events core.old.shape events.now) }
 {
     for event in events {

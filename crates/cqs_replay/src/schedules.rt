@@ -7,9 +7,9 @@ ghost use Rattle.cqs_replay.specs.declared.schedules.ScheduleError.TheVariants.{
 
 use crate::events::{EventForm, write_events};
 use crate::heads::HeadForm;
-use cqs_core::Event;
+use cqs_core::{Event, Memory};
 use cqs_lines::{LineError, read_headed, write_said};
-use std::alloc::{AllocError, Global};
+use std::alloc::Global;
 
 /// A core, and the events that are to be made on it.
 #[derive(Drop)]
@@ -49,7 +49,7 @@ pub fn read_schedule(alloc: Global, bytes: &[u8]) -> Result<Schedule, ScheduleEr
 }
 
 /// The text of a schedule.
-pub fn write_schedule(alloc: Global, schedule: &Schedule) -> Result<Vec<u8>, AllocError>
+pub fn write_schedule(alloc: Global, schedule: &Schedule) -> Result<Vec<u8>, Memory>
     ensures { IfOk result (λ text. text.items ≡ schedule_text schedule.now) }
 {
     let mut text = Vec::new(alloc);

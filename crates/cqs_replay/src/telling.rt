@@ -11,7 +11,7 @@ use crate::events::write_event;
 use crate::outcomes::write_outcome;
 use crate::running::{make, open, run_events};
 use crate::schedules::Schedule;
-use cqs_core::{Event, Outcome};
+use cqs_core::{Event, Memory, Outcome};
 use cqs_core_run::Core;
 use cqs_lines::{write_labelled, write_said};
 use itoa::Buffer;
@@ -60,7 +60,7 @@ fn write_state(text: &mut Vec<u8>, core: &Core) -> Result<(), AllocError>
 }
 
 /// Makes the events, and appends the line of each, up to the first that isn't enabled.
-fn tell_events(text: &mut Vec<u8>, core: &mut Core, events: &[Event]) -> Result<(), AllocError>
+fn tell_events(text: &mut Vec<u8>, core: &mut Core, events: &[Event]) -> Result<(), Memory>
     requires { length events.now < 2 ^ 32 }
     ensures told { OnOk result
         (text.new.items ≡ text.old.items ++ told_lines core.old.shape events.now 2) }
@@ -70,7 +70,7 @@ fn tell_events(text: &mut Vec<u8>, core: &mut Core, events: &[Event]) -> Result<
     for event in events {
         match make(core, *event)? {
             Some(outcome) => write_told(text, *event, outcome)?,
-            None => return write_stopped(text, line),
+            None => return Ok(write_stopped(text, line)?),
         }
         line += 1;
     }
@@ -79,7 +79,7 @@ fn tell_events(text: &mut Vec<u8>, core: &mut Core, events: &[Event]) -> Result<
 
 /// What the events of a schedule answer, a line for each up to the first that isn't enabled, and
 /// how the core stands then.
-pub fn replay_text(alloc: Global, schedule: &Schedule) -> Result<Vec<u8>, AllocError>
+pub fn replay_text(alloc: Global, schedule: &Schedule) -> Result<Vec<u8>, Memory>
     requires schedule { IsSchedule schedule.now }
     requires few { length schedule.now.events.items < 2 ^ 32 }
     ensures { IfOk result (λ text. text.items ≡ replayed schedule.now) }
@@ -93,7 +93,7 @@ pub fn replay_text(alloc: Global, schedule: &Schedule) -> Result<Vec<u8>, AllocE
 
 /// The history of the run of a schedule, up to the first event that isn't enabled.
 #[tactic(auto, using(crate::proofs::Permits::legal_history))]
-pub fn history_text(alloc: Global, schedule: &Schedule) -> Result<Vec<u8>, AllocError>
+pub fn history_text(alloc: Global, schedule: &Schedule) -> Result<Vec<u8>, Memory>
     requires { IsSchedule schedule.now }
     ensures text { IfOk result (λ text. text.items ≡ history_written schedule.now) }
     ensures legal { OnOk result (IsLegal schedule.now.permits (after_run schedule.now).history) }

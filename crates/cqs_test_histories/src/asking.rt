@@ -1,6 +1,7 @@
 //! What is written of a text.
 
 use cqs_cli_histories::{Studied, Study, study_input};
+use cqs_core::Memory;
 use cqs_replay::{ScheduleError, read_schedule, write_schedule};
 use std::alloc::Global;
 
@@ -21,7 +22,10 @@ fn rewritten(alloc: Global, text: &[u8]) -> anyhow::Result<Vec<u8>> {
         anyhow::bail!("too long");
     }
     match read_schedule(alloc, text) {
-        Ok(schedule) => Ok(write_schedule(alloc, &schedule)?),
+        Ok(schedule) => match write_schedule(alloc, &schedule) {
+            Ok(text) => Ok(text),
+            Err(Memory) => anyhow::bail!("no memory"),
+        },
         // It is answered as by the commands that read one.
         Err(ScheduleError::BadLine(_)) => studied(alloc, Study::Replay, text),
         Err(ScheduleError::Memory) => anyhow::bail!("no memory"),

@@ -1,7 +1,7 @@
 //! A history of a million entries.
 
 use cqs_check::{Checked, check_history};
-use cqs_core::Entry;
+use cqs_core::{Entry, Memory};
 use std::alloc::{AllocError, Global};
 
 /// So many callers come into the line, one behind the other, and are then served in order.
@@ -26,11 +26,12 @@ pub fn judge_long_history(alloc: Global, callers: u64) -> anyhow::Result<String>
     if count >= 4_294_967_296 {
         anyhow::bail!("too many entries");
     }
-    let found = match check_history(alloc, 1, entries.as_slice())? {
-        Checked::Legal { next, held, .. } => {
+    let found = match check_history(alloc, 1, entries.as_slice()) {
+        Ok(Checked::Legal { next, held, .. }) => {
             format!(in alloc; "{count} entries: legal, next {next} held {held}")?
         }
-        Checked::Bad(place) => format!(in alloc; "{count} entries: not legal at {place}")?,
+        Ok(Checked::Bad(place)) => format!(in alloc; "{count} entries: not legal at {place}")?,
+        Err(Memory) => anyhow::bail!("no memory"),
     };
     Ok(found)
 }

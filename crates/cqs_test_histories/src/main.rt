@@ -22,7 +22,7 @@ use std::fs;
 use std::rt::Files;
 
 /// The files of cases, each of which ends with `.cases`.
-const FILES: [&str; 2] = ["rows", "random"];
+const FILES: [&str; 3] = ["rows", "random", "logged"];
 
 /// How many cases of a file were tried, and how many didn't come out as they should.
 #[derive(Clone, Copy, Default)]

@@ -6,6 +6,8 @@
 //! a name is how many turns the plan has.
 //! `plain gen NUMBER JOBS` makes the plan of a number and runs it, and prints the nanoseconds of both and a sum over what its report says
 //! after the last turn; `plain summary NUMBER JOBS` prints that text.
+//! `plain check first` and `plain check last` judge a history with a million entries, or with as many as a number after them says, in which
+//! many callers wait and are served from the first of the line on, or from the last. They count along the line who is among its first.
 //! `plain free`, `plain pairs` and `plain leaves` make the rounds of the running queue on atomic words, `plain leave` and
 //! `plain leave-behind` those of a semaphore whose waiter looks and leaves; `plain wake-never`, `plain wake-guarded` and `plain wake-called`
 //! those of a wait that is served, by one who wakes nobody, who asks first whether anybody sleeps, or who makes the system call in any
@@ -636,6 +638,102 @@ fn time_text(name: &str, make: impl FnOnce() -> String) {
     let _ = writeln!(std::io::stdout(), "{name} {nanoseconds} bytes {} sum {sum}", text.len());
 }
 
+/// The entries that the judged histories have.
+#[derive(Clone, Copy)]
+enum Entry {
+    TakeNow,
+    TakeDoor(u32),
+    Enter(u32, usize),
+    GiveSent,
+    Deliver(usize),
+    LookGranted(u32, usize),
+}
+
+/// The history of `cqs_bench check`, in which so many callers wait.
+fn history(callers: usize, last: bool) -> Vec<Entry> {
+    let mut entries = vec![Entry::TakeNow; callers];
+    for wait in 0..callers {
+        entries.push(Entry::TakeDoor(1));
+        entries.push(Entry::Enter(1, wait));
+    }
+    entries.extend(vec![Entry::GiveSent; callers]);
+    for place in 0..callers {
+        let wait = if last { callers - 1 - place } else { place };
+        entries.push(Entry::Deliver(wait));
+        entries.push(Entry::LookGranted(1, wait));
+    }
+    entries
+}
+
+/// What a semaphore is after the entries so far, with its line as a list.
+struct Judge {
+    free: usize,
+    way: usize,
+    held: usize,
+    door: Vec<u32>,
+    line: VecDeque<(usize, u32)>,
+    /// Who was served by each wait, and hasn't looked.
+    served: Vec<Option<u32>>,
+}
+
+impl Judge {
+    fn new(permits: usize) -> Judge {
+        Judge { free: permits, way: 0, held: 0, door: Vec::new(), line: VecDeque::new(), served: Vec::new() }
+    }
+
+    fn enter(&mut self, caller: u32, wait: usize) -> Option<()> {
+        let place = self.door.iter().position(|at_door| *at_door == caller)?;
+        if wait != self.served.len() {
+            return None;
+        }
+        self.door.swap_remove(place);
+        self.line.push_back((wait, caller));
+        self.served.push(None);
+        Some(())
+    }
+
+    fn deliver(&mut self, wait: usize) -> Option<()> {
+        let place = self.line.iter().take(self.way).position(|(waiting, _)| *waiting == wait)?;
+        let (_, caller) = self.line.remove(place)?;
+        self.served[wait] = Some(caller);
+        self.way -= 1;
+        self.held += 1;
+        Some(())
+    }
+
+    /// Whether the entry may come, and what is then.
+    fn admits(&mut self, entry: Entry) -> bool {
+        match entry {
+            Entry::TakeNow if self.free > 0 => {
+                self.free -= 1;
+                self.held += 1;
+            }
+            Entry::TakeDoor(caller) if self.free == 0 => self.door.push(caller),
+            Entry::Enter(caller, wait) => return self.enter(caller, wait).is_some(),
+            Entry::GiveSent if self.held > 0 && self.way < self.door.len() + self.line.len() => {
+                self.held -= 1;
+                self.way += 1;
+            }
+            Entry::Deliver(wait) => return self.deliver(wait).is_some(),
+            Entry::LookGranted(caller, wait) if self.served.get(wait) == Some(&Some(caller)) => self.served[wait] = None,
+            _ => return false,
+        }
+        true
+    }
+}
+
+/// Times the judge on such a history of at most so many entries.
+fn time_check(last: bool, most: usize) {
+    let callers = most / 6;
+    let entries = history(callers, last);
+    let start = Instant::now();
+    let mut judge = Judge::new(callers);
+    let legal = entries.iter().all(|entry| judge.admits(*entry));
+    let nanoseconds = start.elapsed().as_nanos();
+    assert!(legal);
+    let _ = writeln!(std::io::stdout(), "check {nanoseconds} entries {} held {}", entries.len(), judge.held);
+}
+
 /// Does what a command with a number and a count of jobs says; tells whether they are such.
 fn with_number(command: &str, number: &str, jobs: &str) -> bool {
     let (Ok(number), Ok(jobs)) = (number.parse(), jobs.parse()) else {
@@ -697,13 +795,17 @@ fn main() {
             time_wakes(name, rounds());
             true
         }
+        ["check", order @ ("first" | "last"), ..] => {
+            time_check(order == "last", words.get(2).and_then(|text| text.parse().ok()).unwrap_or(1_000_000));
+            true
+        }
         [command @ ("gen" | "summary"), number, jobs] => with_number(command, number, jobs),
         [command, name] => with_plan(command, name, None),
         [command, name, turns] => with_plan(command, name, turns.parse().ok()),
         _ => false,
     };
     if !known {
-        let usage = "usage: plain plan | make | run | report NAME [TURNS]; or plain gen | summary NUMBER JOBS; or plain large; or plain free | pairs | leaves | leave | leave-behind | wake-never | wake-guarded | wake-called [ROUNDS]";
+        let usage = "usage: plain plan | make | run | report NAME [TURNS]; or plain gen | summary NUMBER JOBS; or plain large; or plain check first | last [ENTRIES]; or plain free | pairs | leaves | leave | leave-behind | wake-never | wake-guarded | wake-called [ROUNDS]";
         let _ = writeln!(std::io::stderr(), "{usage}");
         std::process::exit(2);
     }

@@ -1,12 +1,13 @@
 //! Times what the program does with a plan on standard input: the parse of its document, the
 //! reading of the plan, its run, or the reading and the run together, beside a plain fold over the
-//! same parse; and its run by workers. And times the plan of a number. Rounds of calls are timed by
-//! `cqs_bench_calls`.
+//! same parse; and its run by workers. And times the plan of a number, and the judge of a history.
+//! Rounds of calls are timed by `cqs_bench_calls`.
 //!
 //! Each part prints one line, which starts with its word and its nanoseconds.
 #![tactic(auto)]
 
 mod fold;
+mod histories;
 mod words;
 mod work;
 
@@ -232,6 +233,7 @@ fn measure<R: Clock + Threads + Wait + Sync + Print + AllocGlobal, I: Read>(
     match asked {
         Asked::Part(part) => status_of(time_input(rt, part, input)),
         Asked::Number => status_of(time_number(rt)),
+        Asked::Check => histories::measure(rt, words),
         Asked::Work => work::measure(rt, words, input),
     }
 }

@@ -6,6 +6,7 @@ use std::process::ExitCode;
 
 const USAGE: &str = "usage: cqs_bench toml | plan | run | cores | whole | fold < PLAN\n       \
     cqs_bench gen\n       \
+    cqs_bench check first | last [ENTRIES]\n       \
     cqs_bench work WORKERS < PLAN, with 1 to 16 workers";
 
 const BAD_COMMAND: u8 = 2;
@@ -33,8 +34,28 @@ pub enum Asked {
     Part(Part),
     /// The plan of a number.
     Number,
+    /// The judge of a history.
+    Check,
     /// The run of a plan by workers.
     Work,
+}
+
+/// In which order those who wait are served in a history that is judged.
+#[derive(Clone, Copy, Drop)]
+pub enum Service {
+    /// The first of the line first.
+    First,
+    /// The last first, since a permit is on its way for each.
+    Last,
+}
+
+/// The order that this word names, if there is one.
+pub fn service_of(word: &str) -> Option<Service> {
+    match word {
+        "first" => Some(Service::First),
+        "last" => Some(Service::Last),
+        _ => None,
+    }
 }
 
 fn part_of(word: &str) -> Option<Part> {
@@ -53,6 +74,7 @@ fn part_of(word: &str) -> Option<Part> {
 pub fn asked_of(word: &str) -> Option<Asked> {
     match word {
         "gen" => Some(Asked::Number),
+        "check" => Some(Asked::Check),
         "work" => Some(Asked::Work),
         _ => match part_of(word) {
             Some(part) => Some(Asked::Part(part)),

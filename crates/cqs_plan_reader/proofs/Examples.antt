@@ -7,7 +7,7 @@ use Rattle.cqs_plan.specs.declared.plans.fault_kind.FaultKind.{FaultKind}
 use Rattle.cqs_plan.specs.declared.plans.fault_kind.FaultKind.TheVariants as fault
 use Rattle.cqs_plan_reader.specs.FaultRules.{Fault}
 use Rattle.cqs_plan_reader.specs.Faults.{faults_in}
-use Rattle.cqs_plan_reader.specs.Places.{at_index, part_place}
+use Rattle.cqs_plan_reader.specs.Places.{at_index, job_place, part_place}
 
 -- the first fault of a text, if it is a document
 abbrev first_fault : List ℕ → Option Fault
@@ -130,3 +130,29 @@ one_party_too_many : HasFirst (both ++ who_makes (codes "a") (codes "\"arrive b\
     (codes "barrier.b") fault.Many
 unfolding toml_on_literals
 one_party_too_many = refl
+
+-- a plan of a version, with a job that has these keys besides
+abbrev with_keys : List ℕ → List ℕ → List ℕ
+with_keys version keys =
+    codes "version = " ++ version ++ codes "\nturns = 8\n[[job]]\nname = \"a\"\nsteps = []\n" ++ keys
+
+both_keys : first_fault (with_keys (codes "2") (codes "within = 2\nretry = 1\n")) ≡ None
+unfolding toml_on_literals
+both_keys = refl
+
+retry_alone : HasFirst (with_keys (codes "2") (codes "retry = 1\n")) (part_place 0 (codes "within")) fault.Missing
+unfolding toml_on_literals
+retry_alone = refl
+
+retry_of_65 :
+    HasFirst (with_keys (codes "2") (codes "within = 2\nretry = 65\n")) (part_place 0 (codes "retry")) fault.Range
+unfolding toml_on_literals
+retry_of_65 = refl
+
+within_in_version_1 : HasFirst (with_keys (codes "1") (codes "within = 2\n")) (job_place 0) fault.Key
+unfolding toml_on_literals
+within_in_version_1 = refl
+
+version_3 : HasFirst (with_keys (codes "3") (codes "within = 2\n")) (codes "version") fault.Range
+unfolding toml_on_literals
+version_3 = refl

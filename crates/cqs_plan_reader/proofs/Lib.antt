@@ -3,8 +3,11 @@ mod DataLists
 mod WorkSteps
 mod FirstFaults
 mod MeaningLemmas
+mod PatienceFaults
 mod ValidNumbers
 mod ValidSteps
+mod Absent
+mod ValidPatience
 mod ValidJobs
 mod SectionFaults
 mod ReadSections

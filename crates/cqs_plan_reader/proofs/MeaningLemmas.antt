@@ -16,12 +16,12 @@ steps_in-push resources values value step says =
     filter_map-append (step_in resources) values (value ∷ []) ∙ rw says
 
 -- the faults of a job depend on which names stand, and not on how that is told
-pub job_faults-same : (resources : List Resource) (stands others : List ℕ → Bool) (i : ℕ) (value : Data)
+pub job_faults-same : (version : ℕ) (resources : List Resource) (stands others : List ℕ → Bool) (i : ℕ) (value : Data)
     → ((name : List ℕ) → stands name ≡ others name)
-    → job_faults resources stands i value ≡ job_faults resources others i value
-job_faults-same resources stands others i value same =
+    → job_faults version resources stands i value ≡ job_faults version resources others i value
+job_faults-same version resources stands others i value same =
     let equal : stands ≡ others = λ d name. same name d in
-    ap (λ (told : List ℕ → Bool). job_faults resources told i value) equal
+    ap (λ (told : List ℕ → Bool). job_faults version resources told i value) equal
 
 or-swap : (a b : Bool) → (a || (b || false)) ≡ (b || a)
 or-swap true true = refl

@@ -1,6 +1,6 @@
 -- A job without a fault is what a job has to be.
-use Rattle.std.proofs.Common.{◌≡◌, ℕ, zero, suc, ◌<◌, ◌≤◌, Bool, true, false, not, nat_le, List, [], ◌∷◌, length, get_or, take, Option, Some, None, Result, Ok, Err, slice_get, refl, sym, ap, ◌∙◌, arith}
-use Rattle.std.specs.Prelude.{codes, IfSome, All, option_map}
+use Rattle.std.proofs.Common.{◌≡◌, ℕ, zero, suc, ◌<◌, ◌≤◌, Bool, true, false, not, nat_le, List, [], ◌∷◌, length, get_or, take, Option, Some, None, Result, Ok, Err, slice_get, refl, sym, ap, subst, ◌∙◌, arith}
+use Rattle.std.specs.Prelude.{codes, IfSome, All}
 use Rattle.std.specs.List.{filter_map}
 use Rattle.std.proofs.lemmas.Bool.{and_parts, leb-true, ltb-true, not-true}
 use Rattle.std.proofs.lemmas.Option.{get_or_from_slice_get}
@@ -13,14 +13,16 @@ use Rattle.cqs_plan.specs.declared.plans.step.Step.{Step}
 use Rattle.cqs_plan.specs.declared.plans.step.Step.TheVariants.{Arrive, Give}
 use Rattle.cqs_plan.specs.Language.{is_name}
 use Rattle.cqs_plan_reader.specs.FaultRules.{has_only, optional, require, unless}
-use Rattle.cqs_plan_reader.specs.Faults.{job_faults, job_keys, job_step_faults, name_faults, number_faults, read_step_faults, step_faults, steps_faults, steps_part_faults}
+use Rattle.cqs_plan_reader.specs.Faults.{job_faults, job_keys, job_step_faults, name_faults, number_faults, patience_faults, read_step_faults, step_faults, steps_faults, steps_part_faults}
 use Rattle.cqs_plan.specs.Arriving.{has_round}
 use Rattle.cqs_plan.specs.Holding.{is_held}
 use Rattle.cqs_plan_reader.specs.Places.{at_index, job_place, part_place}
-use Rattle.cqs_plan_reader.specs.Meaning.{items_in, items_list, text_in, job_in, job_name, number_in, step_in, step_of, steps_in}
-use Rattle.cqs_plan.specs.Validity.{IsStep, IsJob, ArrivesInRounds, GivesWhatItTook}
+use Rattle.cqs_plan_reader.specs.Meaning.{items_in, items_list, text_in, given_number, job_in, job_name, number_in, step_in, step_of, steps_in}
+use Rattle.cqs_plan.specs.Validity.{IsStep, IsJob, IsPatient, ArrivesInRounds, GivesWhatItTook}
+use Rattle.cqs_plan_reader.specs.Retries.{RetriesWithin}
 use Rattle.cqs_plan_reader.proofs.ValidNumbers.{no_faults, unless-passed, required-there, shaped-right, number-valid, each-faultless}
 use Rattle.cqs_plan_reader.proofs.ValidSteps.{step-valid}
+use Rattle.cqs_plan_reader.proofs.ValidPatience.{IsPatience, patience-valid}
 
 -- a value, where no other is at hand
 abbrev pub nothing : Data
@@ -165,7 +167,7 @@ get-table key (table ms) found is = let same : ms ≡ found = cc in rw same
 get-table key _ found is = cc
 
 deadline-valid : (place : List ℕ) (value : Option Data) → optional value (number_faults place 0 40000) ≡ []
-    → IfSome (option_map (λ d. number_in (Some d)) value) (λ turn. turn ≤ 40000)
+    → IfSome (given_number value) (λ turn. turn ≤ 40000)
 deadline-valid place None none = tt
 deadline-valid place (Some d) none = (number-valid place 0 40000 d none).1
 
@@ -206,9 +208,9 @@ abbrev table_job : List Resource → Members → Job
 table_job resources job = record {
   name = text_in (get_member (codes "name") job);
   steps = steps_in resources (items_in (get_member (codes "steps") job));
-  deadline = option_map (λ d. number_in (Some d)) (get_member (codes "deadline") job);
-  within = None;
-  retry = 0;
+  deadline = given_number (get_member (codes "deadline") job);
+  within = given_number (get_member (codes "within") job);
+  retry = number_in (get_member (codes "retry") job);
 }
 
 job_name-table : (value : Data) (job : Members) → as_table value ≡ Some job
@@ -221,41 +223,60 @@ job_in-table resources value job is =
     let name = get-table (codes "name") value job is in
     let steps = get-table (codes "steps") value job is in
     let deadline = get-table (codes "deadline") value job is in
-    rw (name, steps, deadline)
+    let within = get-table (codes "within") value job is in
+    let retry = get-table (codes "retry") value job is in
+    rw (name, steps, deadline, within, retry)
 
-table_job-valid : (resources : List Resource) (job : Members)
+table_job-valid : (version : ℕ) (resources : List Resource) (job : Members)
     → is_name (text_in (get_member (codes "name") job)) ≡ true
     → AreReadAs resources (items_in (get_member (codes "steps") job))
-    → IfSome (option_map (λ d. number_in (Some d)) (get_member (codes "deadline") job)) (λ turn. turn ≤ 40000)
+    → IfSome (given_number (get_member (codes "deadline") job)) (λ turn. turn ≤ 40000)
+    → IsPatience version (table_job resources job).within (table_job resources job).retry
     → IsJob resources (table_job resources job)
-table_job-valid resources job named steps deadline =
+table_job-valid version resources job named steps deadline patience =
     let values = items_in (get_member (codes "steps") job) in
     let as_many = length-all_some (step_in resources) values (all_some resources values steps) in record {
       named = named;
       deadline = deadline;
-      within = tt;
-      retry = omega arith;
+      within = patience.turns;
+      retry = patience.few;
       few = rw as_many steps.few;
       steps = steps-valid resources values steps;
       gives = gives-valid resources values steps;
       arrives = arrives-valid resources values steps;
     }
 
--- a job without a fault is a job, and its name is new
-pub job-valid : (resources : List Resource) (stands : List ℕ → Bool) (i : ℕ) (value : Data)
-    → job_faults resources stands i value ≡ []
-    → IsJob resources (job_in resources value) × (stands (job_name value) ≡ false)
-job-valid resources stands i value none =
+-- a job without a fault is a job, its name is new, and its waits are those of its version
+pub record IsReadJob (version : ℕ) (resources : List Resource) (stands : List ℕ → Bool) (value : Data)
+    : Type 0 where
+  pub valid : IsJob resources (job_in resources value)
+  pub fresh : stands (job_name value) ≡ false
+  pub bounded : RetriesWithin (job_in resources value)
+  pub patient : version ≡ 1 → IsPatient (job_in resources value)
+
+first-patient : (version : ℕ) (job : Job) → IsPatience version job.within job.retry → version ≡ 1 → IsPatient job
+first-patient version job patience one =
+    let (within, retry) = patience.first one in record { within = within; retry = retry }
+
+pub job-valid : (version : ℕ) (resources : List Resource) (stands : List ℕ → Bool) (i : ℕ) (value : Data)
+    → job_faults version resources stands i value ≡ []
+    → IsReadJob version resources stands value
+job-valid version resources stands i value none =
     let (job, is, faultless) = shaped-right (job_place i) (as_table value) _ none in
     let front = no_faults _ (steps_part_faults i resources (get_member (codes "steps") job)) faultless in
+    let before = no_faults _ (patience_faults version i job) front.0 in
     let late = part_place i (codes "deadline") in
     let turn = get_member (codes "deadline") job in
-    let middle = no_faults _ (optional turn (number_faults late 0 40000)) front.0 in
-    let start = no_faults (unless (has_only job_keys job) (job_place i) fault.Key) _ middle.0 in
+    let middle = no_faults _ (optional turn (number_faults late 0 40000)) before.0 in
+    let start = no_faults (unless (has_only (job_keys version) job) (job_place i) fault.Key) _ middle.0 in
+    let only = unless-passed (has_only (job_keys version) job) (job_place i) fault.Key start.0 in
     let name = name-valid (part_place i (codes "name")) stands (get_member (codes "name") job) start.1 in
     let steps = steps_part-valid i resources (get_member (codes "steps") job) front.1 in
-    let deadline =
-    deadline-valid (part_place i (codes "deadline")) (get_member (codes "deadline") job) middle.1 in (
-      rw (job_in-table resources value job is) (table_job-valid resources job name.named steps deadline),
-      ap stands (job_name-table value job is) ∙ name.fresh,
-    )
+    let deadline = deadline-valid late turn middle.1 in
+    let patience = patience-valid version i job only before.1 in
+    let says = job_in-table resources value job is in record {
+      valid = rw says (table_job-valid version resources job name.named steps deadline patience);
+      fresh = ap stands (job_name-table value job is) ∙ name.fresh;
+      bounded = subst RetriesWithin (sym says) patience.bounded;
+      patient = rw says (first-patient version (table_job resources job) patience);
+    }

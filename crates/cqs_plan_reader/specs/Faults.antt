@@ -1,6 +1,6 @@
 -- All faults of a document, in the order in which they are looked for:
 -- `faults_in`, at the end of this file.
-use Rattle.std.specs.Prelude.{ℕ, ◌+◌, pos, Bool, ◌&&◌, not, nat_le, nat_lt, int_le, List, [], ◌∷◌, ◌++◌, map, take, length, Option, Result, Ok, Err, codes}
+use Rattle.std.specs.Prelude.{ℕ, ◌+◌, pos, Bool, ◌&&◌, not, ◌==◌, nat_le, nat_lt, int_le, if◌then◌else◌, List, [], ◌∷◌, ◌++◌, map, take, length, Option, is_some, Result, Ok, Err, codes}
 use Rattle.std.specs.List.{list_any, flat_map}
 use Rattle.std.specs.Str.{bytes_eq}
 use Rattle.toml.specs.Data.{Data, Members, get_member, as_integer, as_str, as_array, as_table}
@@ -13,7 +13,7 @@ use Rattle.cqs_plan_reader.specs.FaultRules.{Fault, fault_at, unless, require, o
 use Rattle.cqs_plan.specs.Arriving.{arriving, has_parties, has_round}
 use Rattle.cqs_plan.specs.Holding.{is_held}
 use Rattle.cqs_plan.specs.Language.{is_name, ResourceKind, resource_kinds}
-use Rattle.cqs_plan_reader.specs.Meaning.{items_in, items_list, members_list, members_in, resources_in, step_of, steps_in, job_in, job_name}
+use Rattle.cqs_plan_reader.specs.Meaning.{items_in, items_list, members_list, members_in, resources_in, step_of, steps_in, job_in, job_name, version_in}
 use Rattle.cqs_plan_reader.specs.Places.{below_place, at_index, job_place, part_place}
 
 -- an integer from least to most
@@ -100,34 +100,62 @@ name_faults place stands value =
 abbrev pub is_named : List Data → List ℕ → Bool
 is_named jobs name = list_any (λ job. bytes_eq (job_name job) name) jobs
 
--- the keys of a job
-abbrev pub job_keys : List (List ℕ)
-job_keys = codes "name" ∷ codes "steps" ∷ codes "deadline" ∷ []
+-- jobs of this version may say how long their waits last, and how often they begin one again
+abbrev pub has_patience : ℕ → Bool
+has_patience version = version == 2
 
--- the faults of the i-th job, where some names stand already
-abbrev pub job_faults : List Resource → (List ℕ → Bool) → ℕ → Data → List Fault
-job_faults resources stands i value =
+-- the keys of a job
+abbrev pub job_keys : ℕ → List (List ℕ)
+job_keys version =
+    codes "name" ∷ codes "steps" ∷ codes "deadline"
+    ∷ (if has_patience version then codes "within" ∷ codes "retry" ∷ [] else [])
+
+-- the faults of how long each wait of the i-th job may last, which a job with retries has to say
+abbrev pub within_faults : ℕ → Members → List Fault
+within_faults i job =
+    let place = part_place i (codes "within") in
+    let within = get_member (codes "within") job in
+    if is_some (get_member (codes "retry") job)
+    then require place within (number_faults place 1 40000)
+    else optional within (number_faults place 1 40000)
+
+-- the faults of how often the i-th job may begin a wait again
+abbrev pub retry_faults : ℕ → Members → List Fault
+retry_faults i job =
+    optional (get_member (codes "retry") job) (number_faults (part_place i (codes "retry")) 1 64)
+
+-- the faults of both, in a version that has them
+abbrev pub patience_faults : ℕ → ℕ → Members → List Fault
+patience_faults version i job =
+    if has_patience version then within_faults i job ++ retry_faults i job else []
+
+-- the faults of the i-th job of a plan of this version, where some names stand already
+abbrev pub job_faults : ℕ → List Resource → (List ℕ → Bool) → ℕ → Data → List Fault
+job_faults version resources stands i value =
     let name_place = part_place i (codes "name") in
     let deadline_place = part_place i (codes "deadline") in
     expect_shape (job_place i) (as_table value) (λ job.
-    unless (has_only job_keys job) (job_place i) fault.Key
+    unless (has_only (job_keys version) job) (job_place i) fault.Key
     ++ require name_place (get_member (codes "name") job) (name_faults name_place stands)
     ++ optional (get_member (codes "deadline") job) (number_faults deadline_place 0 40000)
+    ++ patience_faults version i job
     ++ steps_part_faults i resources (get_member (codes "steps") job))
 
 -- the faults of the i-th of these jobs, where the names of those before it stand already
-abbrev pub listed_job_faults : List Resource → List Data → ℕ → Data → List Fault
-listed_job_faults resources jobs i value = job_faults resources (is_named (take i jobs)) i value
+abbrev pub listed_job_faults : ℕ → List Resource → List Data → ℕ → Data → List Fault
+listed_job_faults version resources jobs i value =
+    job_faults version resources (is_named (take i jobs)) i value
 
-abbrev pub jobs_faults : List Resource → List Data → List Fault
-jobs_faults resources jobs =
+abbrev pub jobs_faults : ℕ → List Resource → List Data → List Fault
+jobs_faults version resources jobs =
     unless (nat_le (length jobs) 4096) (codes "job") fault.Many
-    ++ each jobs (listed_job_faults resources jobs)
+    ++ each jobs (listed_job_faults version resources jobs)
 
 -- the faults of what the root has at `job`
-abbrev pub jobs_part_faults : List Resource → Option Data → List Fault
-jobs_part_faults resources value = optional value (λ jobs.
-    expect_shape (codes "job") (as_array jobs) (λ items. jobs_faults resources (items_list items)))
+abbrev pub jobs_part_faults : ℕ → List Resource → Option Data → List Fault
+jobs_part_faults version resources value = optional value (λ jobs.
+    expect_shape (codes "job") (as_array jobs) (λ items.
+    jobs_faults version resources (items_list items)))
 
 -- the fault of a barrier at which more jobs arrive than it has parties
 abbrev pub barrier_faults : List Job → ℕ → Resource → List Fault
@@ -139,9 +167,9 @@ abbrev pub barriers_faults : List Resource → List Job → List Fault
 barriers_faults resources jobs = each resources (barrier_faults jobs)
 
 -- the faults of the jobs that the root has, and then of the barriers at which they arrive
-abbrev pub arriving_jobs_faults : List Resource → Option Data → List Fault
-arriving_jobs_faults resources value =
-    jobs_part_faults resources value
+abbrev pub arriving_jobs_faults : ℕ → List Resource → Option Data → List Fault
+arriving_jobs_faults version resources value =
+    jobs_part_faults version resources value
     ++ barriers_faults resources (map (job_in resources) (items_in value))
 
 -- the keys of the root
@@ -158,7 +186,8 @@ root_number_faults key least most root =
 abbrev pub faults_in : Members → List Fault
 faults_in root =
     unless (has_only root_keys root) (codes "plan") fault.Key
-    ++ root_number_faults (codes "version") 1 1 root
+    ++ root_number_faults (codes "version") 1 2 root
     ++ root_number_faults (codes "turns") 1 40000 root
     ++ resources_faults root
-    ++ arriving_jobs_faults (resources_in resource_kinds root) (get_member (codes "job") root)
+    ++ arriving_jobs_faults (version_in root) (resources_in resource_kinds root)
+    (get_member (codes "job") root)

@@ -5,5 +5,6 @@ pub mod Places
 pub mod FaultRules
 pub mod Faults
 pub mod PlanText
+pub mod Retries
 pub mod Sections
 pub mod Reading

@@ -1,5 +1,5 @@
 -- Which plan a document without a fault is.
-use Rattle.std.specs.Prelude.{ℕ, ◌+◌, ◌-◌, ◌*◌, ℤ, pos, negsuc, Bool, ◌&&◌, not, ◌==◌, nat_le, nat_eq, if◌then◌else◌, List, [], ◌∷◌, map, Option, Some, None, unwrap_or, option_map, option_and_then, Result, Ok, Err, codes, fold, find, count_by}
+use Rattle.std.specs.Prelude.{ℕ, ◌+◌, ◌-◌, ◌*◌, ℤ, pos, negsuc, Bool, ◌&&◌, not, ◌==◌, nat_le, nat_eq, if◌then◌else◌, List, [], ◌∷◌, map, Option, Some, unwrap_or, option_map, option_and_then, Result, Ok, Err, codes, fold, find, count_by}
 use Rattle.std.specs.List.{list_all, starts_with, flat_map, filter_map, position_from, before_first, after_first}
 use Rattle.std.specs.Option.{option_map_or}
 use Rattle.std.specs.Result.{result_ok}
@@ -33,6 +33,11 @@ count_in (negsuc n) = 0
 abbrev pub number_in : Option Data → ℕ
 number_in value = option_map_or count_in (option_and_then as_integer value) 0
 
+-- the number that a value says, where there is a value
+abbrev pub given_number : Option Data → Option ℕ
+given_number value = option_map (λ given. number_in (Some given)) value
+
+-- what a value says that may be absent or of another type
 abbrev pub text_in : Option Data → List ℕ
 text_in value = unwrap_or (option_and_then as_str value) []
 
@@ -115,14 +120,18 @@ abbrev pub job_in : List Resource → Data → Job
 job_in resources job = record {
   name = job_name job;
   steps = steps_in resources (items_in (get (codes "steps") job));
-  deadline = option_map (λ deadline. number_in (Some deadline)) (get (codes "deadline") job);
-  within = None;
-  retry = 0;
+  deadline = given_number (get (codes "deadline") job);
+  within = given_number (get (codes "within") job);
+  retry = number_in (get (codes "retry") job);
 }
+
+-- the version that a root names
+abbrev pub version_in : Members → ℕ
+version_in root = number_in (get_member (codes "version") root)
 
 abbrev pub plan_in : Members → Plan
 plan_in root = record {
-  version = number_in (get_member (codes "version") root);
+  version = version_in root;
   turns = number_in (get_member (codes "turns") root);
   resources = resources_in resource_kinds root;
   jobs = map (job_in (resources_in resource_kinds root)) (items_in (get_member (codes "job") root));

@@ -2,7 +2,7 @@
 //!
 //! The document is parsed whole, and then read key by key, in the order in which faults are looked
 //! for. So the first fault that is met is the one that the error names.
-ghost use Rattle.std.specs.Prelude.{◌≡◌, ℕ, List, IfOk};
+ghost use Rattle.std.specs.Prelude.{◌≡◌, ℕ, All, List, IfOk};
 ghost use Rattle.cqs_plan.specs.declared.plans.fault_kind.FaultKind.{FaultKind};
 ghost use Rattle.toml.specs.View.{table_view};
 ghost use Rattle.cqs_plan_reader.specs.Faults.{faults_in};
@@ -11,6 +11,7 @@ ghost use Rattle.cqs_plan.specs.declared.plans.plan.Plan.{Plan};
 ghost use Rattle.cqs_plan_reader.specs.PlanText.{IsFirstFault, IsNoToml, IsOrMemory, IsPlanText};
 ghost use Rattle.cqs_plan.specs.Runnable.{AreSized, IsRunnable};
 ghost use Rattle.cqs_plan_reader.specs.Reading.{Reads};
+ghost use Rattle.cqs_plan_reader.specs.Retries.{RetriesWithin};
 ghost use Rattle.cqs_plan_reader.specs.Sections.{AreFound};
 ghost use Rattle.cqs_plan.specs.Validity.{IsValid};
 
@@ -19,6 +20,7 @@ pub mod jobs;
 pub mod members;
 pub mod names;
 pub mod numbers;
+pub mod patience;
 pub mod place;
 pub mod places;
 pub mod resources;
@@ -54,7 +56,7 @@ fn plan_from(alloc: Global, root: &Table) -> Result<Plan, PlanError>
     ) {
         return Err(Place::Word("plan").fault(alloc, FaultKind::Key));
     }
-    let version = required_number(alloc, Place::Word("version"), member(root, "version"), 1, 1)?;
+    let version = required_number(alloc, Place::Word("version"), member(root, "version"), 1, 2)?;
     let turns = required_number(
         alloc,
         Place::Word("turns"),
@@ -63,7 +65,7 @@ fn plan_from(alloc: Global, root: &Table) -> Result<Plan, PlanError>
         40_000,
     )?;
     let resources = resources::resources(alloc, root)?;
-    let jobs = jobs::jobs(alloc, root, resources.as_slice())?;
+    let jobs = jobs::jobs(alloc, version, root, resources.as_slice())?;
     Ok(Plan {
         version,
         turns,
@@ -93,6 +95,7 @@ pub fn read_plan(alloc: Global, bytes: &[u8]) -> Result<Plan, PlanError>
     ensures valid { IfOk result IsValid }
     ensures runnable { IfOk result IsRunnable }
     ensures sized { IfOk result (λ plan. AreSized plan.resources) }
+    ensures retries { IfOk result (λ plan. All RetriesWithin plan.jobs) }
     ensures not_toml { result ≡ Err PlanError.NotToml → IsNoToml bytes.now }
     ensures fault { (place : List ℕ) (kind : FaultKind)
         → result ≡ Err (PlanError.Fault place kind) → IsFirstFault bytes.now place kind }

@@ -1,6 +1,6 @@
 use Rattle.cqs_plan_reader.proofs.OneAnswer.{IsCause, of-plan, of-no_toml, of-fault}
 use Rattle.cqs_plan.proofs.RunnablePlans.{read-runnable, read-sized}
-use Rattle.cqs_plan_reader.proofs.ValidPlans.{read-valid}
+use Rattle.cqs_plan_reader.proofs.ValidPlans.{read-retries, read-valid}
 use Rattle.cqs_plan_reader.proofs.reader.read_plan.Goals as goal
 use Rattle.cqs_plan_reader.proofs.reader.read_plan.Goals.{After-read}
 
@@ -32,3 +32,6 @@ pub returns-clause-sized : goal.returns-clause-sized
 returns-clause-sized c =
     read-sized c.read.result
     (read-valid c.args.bytes.now c.read.result c.read.ensures.plan c.read.ensures.found)
+
+pub returns-clause-retries : goal.returns-clause-retries
+returns-clause-retries c = read-retries c.args.bytes.now c.read.result c.read.ensures.plan

@@ -11,7 +11,7 @@ use Rattle.cqs_plan_reader.proofs.reader.jobs.each_job.Goals as goal
 use Rattle.cqs_plan_reader.proofs.reader.jobs.each_job.Goals.{After-job}
 
 this_turn : (c : After-job)
-    → Turn view (listed_job_faults c.args.resources.now (map view c.args.values.now.items))
+    → Turn view (listed_job_faults c.args.version c.args.resources.now (map view c.args.values.now.items))
     c.args.values.now.items c.loop-index.index c.value-item.result
 this_turn c = record {
   below = omega arith;
@@ -21,19 +21,19 @@ this_turn c = record {
 
 -- the set tells just which names stand, so the faults are those of the list
 same_faults : (c : After-job)
-    → job_faults c.args.resources.now (contains_text c.loop-index.names) c.loop-index.index
+    → job_faults c.args.version c.args.resources.now (contains_text c.loop-index.names) c.loop-index.index
     (view c.value-item.result)
-    ≡ listed_job_faults c.args.resources.now (map view c.args.values.now.items) c.loop-index.index
+    ≡ listed_job_faults c.args.version c.args.resources.now (map view c.args.values.now.items) c.loop-index.index
     (view c.value-item.result)
 same_faults c =
     let before = take c.loop-index.index (map view c.args.values.now.items) in
-    job_faults-same c.args.resources.now (contains_text c.loop-index.names) (is_named before)
+    job_faults-same c.args.version c.args.resources.now (contains_text c.loop-index.names) (is_named before)
     c.loop-index.index (view c.value-item.result) c.loop-index.invariant.names
 
 pub returns-in_err-read-clause-faults : goal.returns-in_err-read-clause-faults
 returns-in_err-read-clause-faults c =
     let after = (goal.at.returns-in_err-read-clause-faults c).After-job in
-    let faults = listed_job_faults c.args.resources.now (map view c.args.values.now.items) in
+    let faults = listed_job_faults c.args.version c.args.resources.now (map view c.args.values.now.items) in
     let stops : StopsAt (faults c.loop-index.index (view c.value-item.result)) c.in_err-read.field-0.0 =
     rw (← same_faults after) c.in_err-read.ensures.faults in
     let p = err_from_is_err_and c.from_residual-in_err-read.result c.from_residual-in_err-read.ensures.1 in
@@ -44,7 +44,7 @@ loop-index-preserved c =
     let after = (goal.at.loop-index-preserved c).After-job in
     let now = this_turn after in
     let before = take c.loop-index.index (map view c.args.values.now.items) in
-    let faults = listed_job_faults c.args.resources.now (map view c.args.values.now.items) in
+    let faults = listed_job_faults c.args.version c.args.resources.now (map view c.args.values.now.items) in
     let none : faults c.loop-index.index (view c.value-item.result) ≡ [] =
     sym (same_faults after) ∙ c.in_ok-read.ensures.faults in record {
       faults = goes-on now none;
@@ -59,7 +59,7 @@ loop-index-preserved c =
 
 pub returns-clause-faults : goal.returns-clause-faults
 returns-clause-faults c =
-    let faults = listed_job_faults c.args.resources.now (map view c.args.values.now.items) in
+    let faults = listed_job_faults c.args.version c.args.resources.now (map view c.args.values.now.items) in
     ends view faults c.args.values.now.items c.loop-index.index c.loop-index.invariant.faults (omega arith)
 
 pub returns-clause-value : goal.returns-clause-value

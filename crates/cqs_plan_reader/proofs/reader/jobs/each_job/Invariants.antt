@@ -9,8 +9,8 @@ use Rattle.cqs_plan_reader.proofs.reader.jobs.each_job.Given as goal
 abbrev pub invariant-loop-index : goal.invariant-loop-index
 invariant-loop-index l =
     let all = map view l.values.items in record {
-      faults : faults_from (listed_job_faults l.resources all) 0 all
-          ≡ faults_from (listed_job_faults l.resources all) l.index (drop l.index all);
+      faults : faults_from (listed_job_faults l.version l.resources all) 0 all
+          ≡ faults_from (listed_job_faults l.version l.resources all) l.index (drop l.index all);
       values : l.jobs.items ≡ map (job_in l.resources) (take l.index all);
       names : (name : List ℕ) → contains_text l.names name ≡ is_named (take l.index all) name;
     }

@@ -5,7 +5,7 @@ use cqs_cli::DONE;
 use std::fs;
 use std::rt::Files;
 
-const NAMES: [&str; 9] = [
+const NAMES: [&str; 10] = [
     "empty",
     "two-jobs",
     "connection-pool",
@@ -15,6 +15,7 @@ const NAMES: [&str; 9] = [
     "log-file",
     "test-databases",
     "load-test",
+    "pool-timeouts",
 ];
 
 /// Whether the plan of this name runs, and its report is the stored one.

@@ -86,12 +86,13 @@ impl Resources {
     }
 }
 
-/// The text of a plan: few resources, of few permits each, and jobs that take, work and give, count
-/// down, wait and arrive. A third of the jobs have deadlines.
-pub fn plan_text(alloc: Global, seed: u64) -> anyhow::Result<String> {
+/// The text of a plan of this version: few resources, of few permits each, and jobs that take, work
+/// and give, count down, wait and arrive. A third of the jobs have deadlines. Half the jobs of
+/// version 2 say how long their waits may last, and two thirds of these may begin them again.
+pub fn plan_text(alloc: Global, version: u32, seed: u64) -> anyhow::Result<String> {
     let mut chance = Chance { state: seed };
-    let mut text = String::from_str(alloc, "version = 1\n")?;
-    write!(text, "turns = {}\n", chance.up_to(40))?;
+    let mut text = String::new(alloc);
+    write!(text, "version = {version}\nturns = {}\n", chance.up_to(40))?;
     let resources = Resources::by_chance(alloc, &mut chance)?;
     resources.write(&mut text)?;
     for job in 1..=chance.up_to(12) {
@@ -100,8 +101,22 @@ pub fn plan_text(alloc: Global, seed: u64) -> anyhow::Result<String> {
         if chance.up_to(3) == 1 {
             write!(text, "deadline = {}\n", chance.up_to(16))?;
         }
+        if version == 2 {
+            add_patience(&mut text, &mut chance)?;
+        }
     }
     Ok(text)
+}
+
+/// How long the waits of a job may last, and how often it may begin one again.
+fn add_patience(text: &mut String, chance: &mut Chance) -> anyhow::Result<()> {
+    if chance.up_to(2) == 1 {
+        write!(text, "within = {}\n", chance.up_to(5))?;
+        if chance.up_to(3) != 1 {
+            write!(text, "retry = {}\n", chance.up_to(3))?;
+        }
+    }
+    Ok(())
 }
 
 /// The steps of a job. It gives only what it took before, and arrives at a barrier only where it is

@@ -41,9 +41,10 @@ use std::fs;
 use std::rt::Files;
 
 /// The files of cases, each of which ends with `.cases`.
-const TABLES: [&str; 15] = [
+const TABLES: [&str; 16] = [
     "plans",
     "deadlines",
+    "retries",
     "faults",
     "ranges",
     "names",
@@ -78,26 +79,26 @@ fn run_table<R: Files + Print + AllocGlobal>(rt: &R, name: &str) -> anyhow::Resu
     Ok(())
 }
 
-/// How many plans are made by chance.
+/// How many plans of each version are made by chance.
 const GENERATED: u64 = 200;
 
-/// Runs the plan of each seed on both floors, and prints how many reports aren't the same, and how
-/// often the rarer events came.
-fn run_generated<R: Print + AllocGlobal>(rt: &R) -> anyhow::Result<()> {
+/// Runs the plan of each seed, in this version, on both floors, and prints how many reports aren't
+/// the same, and how often the rarer events came.
+fn run_generated<R: Print + AllocGlobal>(rt: &R, version: u32) -> anyhow::Result<()> {
     let alloc = rt.alloc();
     let mut failed = 0u64;
     let mut events = Events::default();
     for seed in 1..=GENERATED {
-        let text = plan_text(alloc, seed)?;
+        let text = plan_text(alloc, version, seed)?;
         match compare(alloc, text.as_str().as_bytes()) {
             Ok(Compared::Same(report)) => events.count(report.text())?,
             Ok(Compared::NoPlan) | Ok(Compared::Different) | Err(_) => {
-                println!(rt; "generated, seed {seed}: NOT as it should be")?;
+                println!(rt; "generated of version {version}, seed {seed}: NOT as it should be")?;
                 failed = failed.saturating_add(1);
             }
         }
     }
-    println!(rt; "generated: {GENERATED} cases, {failed} failed; {events}")?;
+    println!(rt; "generated of version {version}: {GENERATED} cases, {failed} failed; {events}")?;
     Ok(())
 }
 
@@ -105,6 +106,7 @@ fn main(rt: HostRuntime) -> anyhow::Result<()> {
     for name in TABLES {
         run_table(&rt, name)?;
     }
-    run_generated(&rt)?;
+    run_generated(&rt, 1)?;
+    run_generated(&rt, 2)?;
     run_examples(&rt)
 }

@@ -66,6 +66,11 @@ const PASSED_HEAD: &str = r##"<path d="M740 17l4 4l-4 4l-4-4z" fill="#0f766e" st
 <path d="M882 14V28" stroke="#0f766e" stroke-width="3"/><text x="888" y="25">counts</text>
 "##;
 
+/// What stands before the legend where a job came to a line again.
+const AGAIN_HEAD: &str = r##"<path d="M80 21l9-6v12z" fill="#b91c1c" stroke="#ffffff"/>
+<text x="95" y="25">tries again</text>
+"##;
+
 /// What ends the legend.
 const HEAD_END: &str = "</g>\n";
 
@@ -146,7 +151,8 @@ fn draw_end<W: Write>(out: &mut W, job: &Job, turns: u64, top: u64) -> anyhow::R
     write_filled(out, mark, &[left, top, turn])
 }
 
-/// The marks of what was done at a latch or a barrier: where each stands, and what it says.
+/// The marks of what was done at a latch or a barrier, and of a job that came to a line again:
+/// where each stands, and what it says.
 const LEFT: &str = "<path d=\"M@ @V@\" stroke=\"#0f766e\" stroke-width=\"3\"><title>counted down \
                     in turn @, @ left</title></path>\n";
 
@@ -155,6 +161,10 @@ const OPEN: &str = "<path d=\"M@ @l4 4l-4 4l-4-4z\" fill=\"#0f766e\" stroke=\"#f
 
 const OVER: &str = "<path d=\"M@ @l4 4l-4 4l-4-4z\" fill=\"#0f766e\" stroke=\"#ffffff\"><title>\
                     last arrival in turn @, in round @</title></path>\n";
+
+const AGAIN: &str =
+    "<path d=\"M@ @l9-6v12z\" fill=\"#b91c1c\" stroke=\"#ffffff\"><title>tries again \
+                     in turn @</title></path>\n";
 
 /// The marks in a row, around this height.
 fn draw_marks<W: Write>(
@@ -173,6 +183,7 @@ fn draw_marks<W: Write>(
             }
             Told::Open => write_filled(out, OPEN, &[left, top, mark.turn])?,
             Told::Over(round) => write_filled(out, OVER, &[left, top, mark.turn, round])?,
+            Told::Again => write_filled(out, AGAIN, &[left, middle, mark.turn])?,
         }
     }
     Ok(())
@@ -373,6 +384,13 @@ fn draw_resources<W: Write>(
     Ok(())
 }
 
+/// Whether a job came to a line again.
+fn comes_again(job: &Job) -> bool {
+    job.marks
+        .iter()
+        .any(|mark| matches!(mark.told, Told::Again))
+}
+
 /// Writes the picture of these rows.
 pub fn draw<W: Write>(out: &mut W, alloc: Global, rows: &Rows) -> anyhow::Result<()> {
     let resources = LEGEND.saturating_add(rows_of(rows.jobs.len(), JOB_ROW));
@@ -390,6 +408,9 @@ pub fn draw<W: Write>(out: &mut W, alloc: Global, rows: &Rows) -> anyhow::Result
         .any(|resource| resource.kind == Kind::Passed)
     {
         out.write_all(PASSED_HEAD.as_bytes())?;
+    }
+    if rows.jobs.values().any(comes_again) {
+        out.write_all(AGAIN_HEAD.as_bytes())?;
     }
     out.write_all(HEAD_END.as_bytes())?;
     if bottom > SCREEN {

@@ -14,6 +14,8 @@ pub enum Event<'a> {
     Served(&'a str),
     /// It gave back what it held; whether that was sent to somebody who waits.
     Gives { resource: &'a str, sent: bool },
+    /// It left the line, and makes the step again at which it waited.
+    Retries(&'a str),
     /// It left the line, and ended.
     GaveUp(&'a str),
     /// It was about to leave the line, but had been served, and ended.
@@ -155,6 +157,7 @@ fn event_of<'a>(words: &[&'a str]) -> Option<Event<'a>> {
         "waits" => waited_at(words).map(Event::Waits),
         "served" => service_of(words),
         "gives" => give_of(words),
+        "retries" => waited_at(words).map(Event::Retries),
         "gaveup" => waited_at(words).map(Event::GaveUp),
         "late" => waited_at(words).map(Event::Late),
         "passes" if words.len() == 1 => Some(Event::Passes),

@@ -20,7 +20,7 @@ pub struct Span {
     pub to: u64,
 }
 
-/// What a mark says of a latch or a barrier.
+/// What a mark says.
 #[derive(Clone, Copy)]
 pub enum Told {
     /// The latch was counted down, and so much is left.
@@ -29,17 +29,19 @@ pub enum Told {
     Open,
     /// The last party of this round has arrived.
     Over(u64),
+    /// The job left the line, and came to it again.
+    Again,
 }
 
-/// A mark in a row: in this turn, what happened at a latch or a barrier. It stands at the job that
-/// did it, and at the resource.
+/// A mark in a row: in this turn, what happened. What happened at a latch or a barrier stands at
+/// the job that did it, and at the resource; that a job came again, at the job alone.
 #[derive(Clone, Copy)]
 pub struct Mark {
     pub turn: u64,
     pub told: Told,
 }
 
-/// What an event marks.
+/// What an event marks at a resource.
 fn mark_of(turn: u64, event: Event<'_>) -> Option<Mark> {
     let told = match event {
         Event::Counts { left, .. } => Told::Left(left),
@@ -48,6 +50,17 @@ fn mark_of(turn: u64, event: Event<'_>) -> Option<Mark> {
         _ => return None,
     };
     Some(Mark { turn, told })
+}
+
+/// What an event marks at the job.
+fn job_mark_of(turn: u64, event: Event<'_>) -> Option<Mark> {
+    match event {
+        Event::Retries(_) => Some(Mark {
+            turn,
+            told: Told::Again,
+        }),
+        _ => mark_of(turn, event),
+    }
 }
 
 /// How a job ended.
@@ -63,7 +76,7 @@ pub enum End {
 pub struct Job {
     /// What it was at, oldest first, without what it is at now.
     pub spans: Vec<Span>,
-    /// What it did at latches and barriers, oldest first.
+    /// What it did at latches and barriers, and where it came to a line again, oldest first.
     pub marks: Vec<Mark>,
     state: State,
     since: u64,
@@ -193,7 +206,9 @@ impl Resource {
             Event::Gives { sent: false, .. } => self.go_to(turn, held.saturating_sub(1), waiting),
             // what was sent counts as held, before it is looked at
             Event::Gives { sent: true, .. } => self.go_to(turn, held, waiting.saturating_sub(1)),
-            Event::GaveUp(_) => self.go_to(turn, held, waiting.saturating_sub(1)),
+            Event::Retries(_) | Event::GaveUp(_) => {
+                self.go_to(turn, held, waiting.saturating_sub(1))
+            }
             Event::Opens(_) | Event::Completes { .. } => self.go_to(turn, held, 0),
             Event::Served(_)
             | Event::Late(_)
@@ -220,6 +235,7 @@ fn resource_of<'a>(event: Event<'a>) -> Option<&'a str> {
         | Event::Waits(resource)
         | Event::Served(resource)
         | Event::Gives { resource, .. }
+        | Event::Retries(resource)
         | Event::GaveUp(resource)
         | Event::Late(resource)
         | Event::Counts {
@@ -302,7 +318,7 @@ impl Rows {
         let Some(job) = self.jobs.get_mut(name) else {
             return Ok(());
         };
-        if let Some(mark) = mark_of(turn, event) {
+        if let Some(mark) = job_mark_of(turn, event) {
             job.marks.push(mark)?;
         }
         match event {
@@ -332,8 +348,11 @@ impl Rows {
                 }
                 job.stop(turn)
             }
-            Event::Passes | Event::Counts { .. } | Event::Opens(_) | Event::Completes { .. } =>
-                job.go_on(turn),
+            Event::Retries(_)
+            | Event::Passes
+            | Event::Counts { .. }
+            | Event::Opens(_)
+            | Event::Completes { .. } => job.go_on(turn),
             Event::Done => {
                 job.end = Some((turn, End::Done));
                 job.stop(turn)

@@ -4,7 +4,7 @@ use crate::finder::{Segment, find};
 use crate::places::Place;
 use crate::position::Position;
 use crate::quoted::Quoted;
-use crate::rules::{KINDS, NAME, keys_at, label, resources_for, right_at};
+use crate::rules::{KINDS, NAME, is_later, keys_at, label, resources_for, right_at};
 use cqs_plan::{FaultKind, PlanError};
 use cqs_plan_reader::read_plan;
 use std::alloc::{AllocError, Global};
@@ -91,7 +91,7 @@ fn place_in(
 /// The key, the name or the step that is amiss at a place.
 fn amiss_at<'a>(root: &'a Table, place: Place<'a>, kind: FaultKind) -> Option<&'a str> {
     match (kind, place) {
-        (FaultKind::Key, _) => unknown_key(table_at(root, place)?, keys_at(place)),
+        (FaultKind::Key, _) => unknown_key(table_at(root, place)?, keys_at(place, version(root))),
         (FaultKind::Name, Place::Word(word)) => wrong_name(root.get(word)?.as_table()?),
         (FaultKind::Name, Place::Part { job, .. }) => job_name(root, job),
         (_, Place::Step { job, step }) => {
@@ -100,6 +100,11 @@ fn amiss_at<'a>(root: &'a Table, place: Place<'a>, kind: FaultKind) -> Option<&'
         }
         _ => None,
     }
+}
+
+/// The version that a document says, if any.
+fn version(root: &Table) -> i64 {
+    root.get("version").and_then(Value::as_integer).unwrap_or(0)
 }
 
 /// The table at a place, if there is one.
@@ -171,9 +176,15 @@ fn say(
     let shown = Quoted { text: amiss };
     let right = right_at(place);
     match kind {
+        FaultKind::Key if is_later(place, amiss) => {
+            write!(
+                text,
+                "{shown} is a key of version 2, and this plan is of version 1"
+            )
+        }
         FaultKind::Key => {
             write!(text, "{shown} is no key here, where there may be")?;
-            say_keys(text, keys_at(place))
+            say_keys(text, keys_at(place, version(root)))
         }
         FaultKind::Missing => write!(text, "{amiss} is missing, which has to be {right}"),
         FaultKind::Shape => {

@@ -2,7 +2,7 @@
 
 use crate::places::Place;
 
-/// The keys of a plan, and of a job.
+/// The keys of a plan.
 const PLAN_KEYS: [&str; 8] = [
     "version",
     "turns",
@@ -14,7 +14,10 @@ const PLAN_KEYS: [&str; 8] = [
     "job",
 ];
 
-const JOB_KEYS: [&str; 3] = ["name", "steps", "deadline"];
+/// The keys of a job of version 1, and of version 2.
+const FIRST_JOB_KEYS: [&str; 3] = ["name", "steps", "deadline"];
+
+const JOB_KEYS: [&str; 5] = ["name", "steps", "deadline", "within", "retry"];
 
 /// The kinds of resources.
 pub const KINDS: [&str; 5] = ["semaphore", "mutex", "pool", "latch", "barrier"];
@@ -22,11 +25,12 @@ pub const KINDS: [&str; 5] = ["semaphore", "mutex", "pool", "latch", "barrier"];
 /// What a name is.
 pub const NAME: &str = "1 to 32 ASCII letters, digits, _ and -";
 
-/// The keys of the table at a place.
-pub fn keys_at(place: Place<'_>) -> &'static [&'static str] {
+/// The keys of the table at a place, in a plan of this version.
+pub fn keys_at(place: Place<'_>, version: i64) -> &'static [&'static str] {
     match place {
         Place::Root => &PLAN_KEYS,
-        Place::Job(_) => &JOB_KEYS,
+        Place::Job(_) if version == 2 => &JOB_KEYS,
+        Place::Job(_) => &FIRST_JOB_KEYS,
         Place::Resource { kind, .. } => match kind {
             "semaphore" | "pool" => &["size"],
             "latch" => &["count"],
@@ -35,6 +39,11 @@ pub fn keys_at(place: Place<'_>) -> &'static [&'static str] {
         },
         Place::Word(_) | Place::Number { .. } | Place::Part { .. } | Place::Step { .. } => &[],
     }
+}
+
+/// Whether a key that isn't known at a place would be in version 2.
+pub fn is_later(place: Place<'_>, key: &str) -> bool {
+    keys_at(place, 2).iter().any(|known| key == *known)
 }
 
 /// What a place is called.
@@ -54,7 +63,7 @@ pub fn label(place: Place<'_>) -> &str {
 pub fn right_at(place: Place<'_>) -> &'static str {
     match place {
         Place::Word(word) => match word {
-            "version" => "1",
+            "version" => "1 or 2",
             "turns" => "an integer from 1 to 40000",
             "job" => "an array of tables, as by [[job]]",
             _ => "a table of tables, one for each name",
@@ -68,6 +77,8 @@ pub fn right_at(place: Place<'_>) -> &'static str {
         Place::Part { key, .. } => match key {
             "name" => "a string of 1 to 32 ASCII letters, digits, _ and -",
             "deadline" => "an integer from 0 to 40000",
+            "within" => "an integer from 1 to 40000",
+            "retry" => "an integer from 1 to 64",
             _ => "an array of at most 64 strings",
         },
         Place::Step { .. } => "a string, as \"work 2\"",

@@ -43,6 +43,11 @@ pub few-counted : (t : Segments) (settled : ℕ → Bool) (duties : ℕ → ℕ)
     → 0 < duties s → t.counted s ≤ 31
 few-counted t settled duties s counted some = let a = counted.counts s in let b = few-settled settled s in omega arith
 
+-- no more are counted than there are
+pub most-counted : (t : Segments) (settled : ℕ → Bool) (duties : ℕ → ℕ) (s : ℕ) → AreCounted t settled duties
+    → t.counted s ≤ 32
+most-counted t settled duties s counted = let a = counted.counts s in let b = few-settled settled s in omega arith
+
 pub counted-stands : (n : ℕ) (t : Segments) (s x : ℕ) → AreSound n t → IsHome t.homes s x → t.counted s ≤ 31
     → IsSegment (t.slots x) s
 counted-stands n t s x sound home few =
@@ -112,6 +117,7 @@ module _ (n : ℕ) (t : Segments) (c : ℕ → ℕ) (words : List ℕ) (show : S
       young = old.young;
       last = old.last;
       low = old.low;
+      named = old.named;
       out = λ q h. ⊎_elim inl
           (λ (o : Has q t.outs × (t.counted q ≡ 32)).
           inr (o.0, changed_else t.counted s z q (other-counted q o.1) ∙ o.1))
@@ -134,6 +140,7 @@ module _ (n : ℕ) (t : Segments) (c : ℕ → ℕ) (words : List ℕ) (show : S
         changed_at t.counted s z q new.1 ∙ (let g = new.0 in omega arith))
         (fuller-back t.full (t.counted s) s q h);
     few = sound.few;
+    short = sound.short;
   }
 
   pub counted-later : IsLater t (with_counted t s)

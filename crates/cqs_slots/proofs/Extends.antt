@@ -1,5 +1,5 @@
 -- The exchange of the tail, by which a spare becomes the home of the segment after the last.
-use Rattle.std.proofs.Common.{◌≡◌, ◌≢◌, ◌⊎◌, ℕ, ◌+◌, ◌*◌, ◌<◌, ◌≤◌, List, [], ◌∷◌, ◌++◌, length, sym, refl, ap, ◌∙◌, subst, ⊎_elim, inl, inr, arith, length-append}
+use Rattle.std.proofs.Common.{◌≡◌, ◌≢◌, ◌⊎◌, ℕ, ◌+◌, ◌^◌, ◌*◌, ◌<◌, ◌≤◌, List, [], ◌∷◌, ◌++◌, length, sym, refl, ap, ◌∙◌, subst, ⊎_elim, inl, inr, arith, length-append}
 use Rattle.std.specs.Prelude.{slice_index, slice_set}
 use Rattle.std.proofs.lemmas.Bool.{cases_lt}
 use mathlib.Core.Logic.{dite}
@@ -43,7 +43,7 @@ tail-at n t c words show sound =
 
 module _ (n : ℕ) (t : Segments) (c : ℕ → ℕ) (words : List ℕ) (show : Shows n t c words) (sound : AreSound n t)
     (cells : AreCells c t.tail) (y id : ℕ) (low : y < n) (begun : id ≤ t.tail) (was : t.slots y ≡ spare id t.tail 34)
-    (up : t.lit ≡ t.tail + 1) where
+    (up : t.lit ≡ t.tail + 1) (short : t.tail + 1 < 2 ^ 36) where
   abbrev a : ℕ
   a = t.tail
 
@@ -118,6 +118,7 @@ module _ (n : ℕ) (t : Segments) (c : ℕ → ℕ) (words : List ℕ) (show : S
         (λ (new : (q ≡ t.tail + 1) × (y ≡ y)). inl new.0)
         (back q y h);
     low = omega arith;
+    named = inl (get-push_at t.homes y (t.tail + 1) (let l = long in omega arith));
     out = λ q h. ⊎_elim
         (λ (was-home : IsHome t.homes q y). ⊎_elim (λ f. absurd f) inr (was-sound.out q was-home))
         (λ (new : (q ≡ t.tail + 1) × (y ≡ y)). inl (sym new.0))
@@ -176,6 +177,7 @@ module _ (n : ℕ) (t : Segments) (c : ℕ → ℕ) (words : List ℕ) (show : S
           young = λ q i f. let s = before.young q i f in let e = s.1 in let l = up in absurd (omega arith);
           last = λ q h. before.last q (mine q h);
           low = let l = before.low in omega arith;
+          named = ⊎_elim (λ h. inl (get-append_left t.homes (y ∷ []) _ x h)) inr before.named;
           out = λ q h. before.out q (mine q h);
           gone = before.gone;
         }));
@@ -184,6 +186,7 @@ module _ (n : ℕ) (t : Segments) (c : ℕ → ℕ) (words : List ℕ) (show : S
     full = sound.full;
     full_is = sound.full_is;
     few = sound.few;
+    short = short;
   }
 
   pub extended : Becomes n y t (with_tail t y id) c (slice_set words tail_place (segment_word (t.tail + 1) y))

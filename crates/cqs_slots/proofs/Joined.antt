@@ -1,9 +1,9 @@
 -- The laws that are put together from several lemmas.
 use Rattle.std.proofs.Common.{refl}
-use Rattle.cqs_slots.specs.Laws.{CellsAreWritten, ClaimedHeadsAreLit, DutiesAreDone, FoundWordsAreLater, TailsTell, WordsBeforeShowNothing}
+use Rattle.cqs_slots.specs.Laws.{CellsAreWritten, ClaimedHeadsAreLit, CountsTell, DutiesAreDone, FoundWordsAreLater, TailsTell, WordsBeforeShowNothing}
 use Rattle.cqs_slots.specs.Told.{all_seen}
-use Rattle.cqs_slots.proofs.Counts.{few-counted, count-found, counted-shows, counted-sound, counted-later, counted-counts}
-use Rattle.cqs_slots.proofs.Loads.{tail-found}
+use Rattle.cqs_slots.proofs.Counts.{few-counted, most-counted, count-found, counted-shows, counted-sound, counted-later, counted-counts}
+use Rattle.cqs_slots.proofs.Loads.{tail-found, count-told}
 use Rattle.cqs_slots.proofs.Marks.{is-young, lit}
 use Rattle.cqs_slots.proofs.Stands.{found-is, found-later}
 use Rattle.cqs_slots.proofs.Stays.{all-stay}
@@ -39,4 +39,8 @@ stays-before n t c words show sound words' long stay =
     all-stay n t c c words words' sound long stay (λ k. refl) show
 
 pub tail-tells : TailsTell
-tail-tells n t c words show sound = (tail-found n t c words show sound (all_seen t) refl).0
+tail-tells n t c words show sound = (tail-found n t c words show sound (all_seen t) refl refl).0
+
+pub counts-tell : CountsTell
+counts-tell n t c words show sound settled duties counted v x below k =
+    count-told n t c words show sound v x below k (λ s. most-counted t settled duties s counted)

@@ -7,7 +7,7 @@ use Rattle.cqs_core.proofs.Places.{get-below}
 use Rattle.cqs_words.specs.Head.{head_word}
 use Rattle.cqs_slots.specs.declared.seen.Seen.{Seen}
 use Rattle.cqs_slots.specs.Layout.{tail_place, head_place, count_place}
-use Rattle.cqs_slots.specs.Slots.{Segments, Slot, free, spare, fresh, live, IsHome, IsSegment, slot_head, IsLast, IsLater}
+use Rattle.cqs_slots.specs.Slots.{Segments, Slot, free, spare, fresh, live, IsHome, IsSegment, slot_head, IsLast, last_id, IsLater}
 use Rattle.cqs_slots.specs.Shown.{SlotSound, Shows, AreSound}
 use Rattle.cqs_slots.specs.Told.{Knows, SeesMore, all_seen, TailFound, HeadFound, CountFound}
 use Rattle.cqs_slots.proofs.Lists.{prefix-same, prefix-then, home-prefix}
@@ -63,9 +63,9 @@ later-same t = record {
 
 module _ (n : ℕ) (t : Segments) (c : ℕ → ℕ) (words : List ℕ) (show : Shows n t c words) (sound : AreSound n t) where
   -- the tail tells of the last segment
-  pub tail-found : (v : Seen) → v.homes ≡ t.homes
+  pub tail-found : (v : Seen) → v.homes ≡ t.homes → v.outs ≡ t.outs
       → (f : TailFound n (slice_index words tail_place) v) × (f.id ≡ t.tail)
-  tail-found v same =
+  tail-found v same gone =
       let f = tail-at n t c words show sound in (
         record {
           id = t.tail;
@@ -73,7 +73,11 @@ module _ (n : ℕ) (t : Segments) (c : ℕ → ℕ) (words : List ℕ) (show : S
           word = f.2;
           home = subst (λ l. IsHome l t.tail f.0) (sym same) f.1;
           last = ap length same ∙ sound.made;
+          stands = λ h. (sound.each f.0 f.3).gone t.tail (sound.tail_in f.0 f.1) (subst (Has t.tail) gone h);
           low = f.3;
+          id_fits = sound.short;
+          slot_fits = let l = f.3 in let few = sound.few in omega arith;
+          inside = λ s x at. sound.inside s x (subst (λ l. IsHome l s x) same at);
         },
         refl,
       )
@@ -131,6 +135,13 @@ module _ (n : ℕ) (t : Segments) (c : ℕ → ℕ) (words : List ℕ) (show : S
         gone = λ s home before q. known-out (free i) s e home (λ z. z);
         young = λ s j home q lo. let f = is (free i) e in absurd (omega arith);
         lit = lit-here;
+        free = λ j q.
+            let f = is (free i) e in
+            let same : i ≡ j = omega arith in
+            subst (λ z. IsHome t.homes z x ⊎ (z ≡ 0)) (ap last_id e ∙ same) slot.named;
+        rising = λ s j home q.
+            let f = is (free i) e in
+            let last : s ≤ i = subst (λ z. IsLast z s) e (slot.last s (at s home)) in omega arith;
       }
       by-slot (spare i a d) e = record {
         live = λ s q. let f = is (spare i a d) e in absurd (omega arith);
@@ -138,6 +149,8 @@ module _ (n : ℕ) (t : Segments) (c : ℕ → ℕ) (words : List ℕ) (show : S
         young = λ s j home q lo. let f = is (spare i a d) e in
             let last : s ≤ i = subst (λ z. IsLast z s) e (slot.last s (at s home)) in absurd (omega arith);
         lit = lit-here;
+        free = λ j q. let f = is (spare i a d) e in absurd (omega arith);
+        rising = λ s j home q. let f = is (spare i a d) e in absurd (omega arith);
       }
       by-slot (fresh u i) e = record {
         live = λ s q. let f = is (fresh u i) e in absurd (omega arith);
@@ -151,26 +164,38 @@ module _ (n : ℕ) (t : Segments) (c : ℕ → ℕ) (words : List ℕ) (show : S
             (λ (z : s ≡ u). subst (λ (p : ℕ × ℕ). IsHome t.kept p.0 p.1) (λ m. (sym z m, same m)) (slot.young u i e).3)
             (λ (z : s ≤ i). absurd (omega arith)) last;
         lit = lit-here;
+        free = λ j q. let f = is (fresh u i) e in absurd (omega arith);
+        rising = λ s j home q. let f = is (fresh u i) e in absurd (omega arith);
       }
       by-slot (live u) e = record {
         live = λ s q.
             let f = is (live u) e in
             let same : u ≡ s = omega arith in
-            let there : IsHome t.homes s x = slot.home s (subst (λ z. IsSegment z s) (sym e) same) in
-            (there, lit-known x s below there (λ i g. let both : live u ≡ fresh s i = sym e ∙ g in absurd (cc)));
+            let there : IsHome t.homes s x = slot.home s (subst (λ z. IsSegment z s) (sym e) same) in (
+              there,
+              lit-known x s below there (λ i g. let both : live u ≡ fresh s i = sym e ∙ g in absurd (cc)),
+              λ h. slot.gone s (subst (λ z. IsSegment z s) (sym e) same) h,
+            );
         gone = λ s home before q. known-out (live u) s e home
             (λ (z : u ≡ s). let f = is (live u) e in absurd (q (f ∙ ap (λ y. head_word y 2) z)));
         young = λ s j home q lo. let f = is (live u) e in absurd (omega arith);
         lit = lit-here;
+        free = λ j q. let f = is (live u) e in absurd (omega arith);
+        rising = λ s j home q. let f = is (live u) e in absurd (omega arith);
       }
 
   -- what a number of settled cells tells, of whatever life of the slot it is
-  pub count-told : (v : Seen) (x : ℕ) → x < n → Knows t v
+  pub count-told : (v : Seen) (x : ℕ) → x < n → Knows t v → ((s : ℕ) → t.counted s ≤ 32)
       → CountFound x (slice_index words (count_place x)) v (all_seen t)
-  count-told v x below k = record {
+  count-told v x below k most = record {
     full = λ s home all.
         let there : IsHome t.homes s x = home-prefix v.homes t.homes s x k.homes home in
         sound.full s (⊎_elim
-        (λ seg. sym ((show.each x below).count s seg) ∙ all)
+        (λ seg. let is = (show.each x below).count s seg in let m = most s in omega arith)
         (λ o. o.1) ((sound.each x below).out s there));
+    early = λ s home few all.
+        let there : IsHome t.homes s x = home-prefix v.homes t.homes s x k.homes home in
+        ⊎_elim
+        (λ seg. let is = (show.each x below).count s seg in let full = sound.full_is s all in absurd (omega arith))
+        (λ o. o.0) ((sound.each x below).out s there);
   }

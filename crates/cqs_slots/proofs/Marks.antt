@@ -69,6 +69,7 @@ module _ (n : ℕ) (t : Segments) (c : ℕ → ℕ) (words : List ℕ) (show : S
           last = λ m g. ⊎_elim (λ (q : m ≡ s). let p : m ≤ s = omega arith in p)
               (λ (q : m ≤ i). let lo = y.2 in let p : m ≤ s = omega arith in p) (is.last m g);
           low = let p : s ≤ t.tail = omega arith in p;
+          named = inl home;
           out = λ m g. is.out m g;
           gone = λ m seg g. is.gone m seg g;
         };
@@ -118,6 +119,7 @@ module _ (n : ℕ) (t : Segments) (c : ℕ → ℕ) (words : List ℕ) (show : S
           young = λ m q f. absurd (cc);
           last = λ m g. is.last m g;
           low = is.low;
+          named = inl home;
           out = λ m g. ⊎_elim
               (λ (e : s ≡ m). inr (has_right m t.outs (s ∷ []) (inl (sym e)), ap t.counted (sym e) ∙ counted))
               (λ o. inr (has_left m t.outs (s ∷ []) o.0, o.1)) (is.out m g);

@@ -1,5 +1,5 @@
 -- The slots as a table opens.
-use Rattle.std.proofs.Common.{◌≡◌, ℕ, zero, suc, ◌+◌, ◌-◌, ◌*◌, ◌<◌, ◌≤◌, false, List, length, refl, ap, sym, ◌∙◌, subst, inl, ⊎_elim, arith, Some, lt-ltb, le-ltb, if◌then◌else◌}
+use Rattle.std.proofs.Common.{◌≡◌, ℕ, zero, suc, ◌+◌, ◌-◌, ◌^◌, ◌*◌, ◌<◌, ◌≤◌, false, List, length, refl, ap, sym, ◌∙◌, subst, inl, inr, ⊎_elim, arith, Some, lt-ltb, le-ltb, if◌then◌else◌}
 use Rattle.std.specs.Prelude.{slice_index}
 use Rattle.std.proofs.lemmas.List.{length-replicate}
 use Rattle.std.proofs.lemmas.Bool.{cases_lt}
@@ -90,6 +90,7 @@ module _ (n m : ℕ) (c : ℕ → ℕ) (some : 0 < m) (few : m ≤ n) (most : n 
     young = λ s i e. absurd (cc);
     last = λ s h. let e = (home-is m s x h).1 in let q : s ≤ x = omega arith in q;
     low = let q : x ≤ m - 1 = omega arith in q;
+    named = inl (home-there m x low);
     out = λ s h. inl (home-is m s x h).1;
     gone = λ s seg h. h;
   }
@@ -100,6 +101,7 @@ module _ (n m : ℕ) (c : ℕ → ℕ) (some : 0 < m) (few : m ≤ n) (most : n 
     young = λ s i e. absurd (cc);
     last = λ s h. let r = home-is m s x h in let a = r.0 in let b = r.1 in absurd (omega arith);
     low = let q : 0 ≤ m - 1 = omega arith in q;
+    named = inr refl;
     out = λ s h. let r = home-is m s x h in let a = r.0 in let b = r.1 in absurd (omega arith);
     gone = λ s seg h. h;
   }
@@ -124,6 +126,7 @@ module _ (n m : ℕ) (c : ℕ → ℕ) (some : 0 < m) (few : m ≤ n) (most : n 
     full = λ s e. absurd (omega arith);
     full_is = λ s h. absurd h;
     few = most;
+    short = let q : m - 1 < 2 ^ 36 = omega arith in q;
   }
 
 pub opens-counted : (m : ℕ) → AreCounted (first_segments m) (λ k. false) (λ s. 0)

@@ -98,6 +98,7 @@ module _ (n : ℕ) (t : Segments) (x : ℕ) (b : Slot) (outs : List ℕ) (lit : 
           young = λ s i is. let f = old.young s i is in (f.0, young y s i below a is ∙ f.1, f.2, f.3);
           last = old.last;
           low = old.low;
+          named = old.named;
           out = λ s home. ⊎_elim inl (λ o. inr (outs-more s o.0, o.1)) (old.out s home);
           gone = λ s is has. old.gone s is (outs-back y s below a is has);
         }));
@@ -106,4 +107,5 @@ module _ (n : ℕ) (t : Segments) (x : ℕ) (b : Slot) (outs : List ℕ) (lit : 
     full = sound.full;
     full_is = sound.full_is;
     few = sound.few;
+    short = sound.short;
   }

@@ -1,5 +1,5 @@
 -- A step that changes one slot.
-use Rattle.std.proofs.Common.{◌≡◌, ◌≢◌, ℕ, ◌+◌, ◌*◌, ◌<◌, ◌≤◌, List, length, refl, ap, ◌∙◌, subst, ⊎_elim, inr, arith}
+use Rattle.std.proofs.Common.{◌≡◌, ◌≢◌, ◌⊎◌, ℕ, ◌+◌, ◌*◌, ◌<◌, ◌≤◌, List, length, sym, refl, ap, ◌∙◌, subst, ⊎_elim, inr, arith}
 use Rattle.std.specs.Prelude.{slice_index, slice_set}
 use Rattle.std.proofs.lemmas.List.{length-set}
 use Rattle.cqs_core.specs.Parts.{Has, IsPrefix}
@@ -87,6 +87,7 @@ sound-idle n t x a b idle idle' ids lasts old-one sound = record {
   young = λ s i e. absurd (old-one s i e);
   last = λ s home. lasts s (sound.last s home);
   low = let l = sound.low in omega arith;
+  named = subst (λ z. IsHome t.homes z x ⊎ (z ≡ 0)) (sym ids) sound.named;
   out = λ s home. ⊎_elim (λ seg. absurd (idle s seg)) inr (sound.out s home);
   gone = λ s seg h. absurd (idle' s seg);
 }

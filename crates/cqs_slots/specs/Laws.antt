@@ -1,6 +1,6 @@
 -- The laws of slots: what each step on their words makes of the segments, what each load tells, and
 -- that a segment leaves no sooner than all its cells are settled.
-use Rattle.std.specs.Prelude.{◌≡◌, ◌≢◌, ℕ, ◌+◌, ◌*◌, ◌<◌, ◌≤◌, Bool, true, false, List, [], ◌∷◌, ◌++◌, length, slice_index, slice_set}
+use Rattle.std.specs.Prelude.{◌≡◌, ◌≢◌, ℕ, ◌+◌, ◌*◌, ◌^◌, ◌<◌, ◌≤◌, Bool, true, false, List, [], ◌∷◌, ◌++◌, length, slice_index, slice_set}
 use Rattle.cqs_core.specs.Parts.{Has}
 use Rattle.cqs_words.specs.Cell.{index_in}
 use Rattle.cqs_words.specs.Head.{head_word}
@@ -68,7 +68,7 @@ ClaimedHeadsAreLit = OfShown (λ n t c words.
 abbrev pub ResetSparesBecomeTheTail : Type 0
 ResetSparesBecomeTheTail = OfShown (λ n t c words.
     AreCells c t.tail → (x id : ℕ) → x < n → id ≤ t.tail → t.slots x ≡ spare id t.tail 34
-    → t.lit ≡ t.tail + 1
+    → t.lit ≡ t.tail + 1 → t.tail + 1 < 2 ^ 36
     → Becomes n x t (with_tail t x id) c (slice_set words tail_place (segment_word (t.tail + 1) x)))
 
 -- A segment whose cells are all counted leaves, unless it is the last one. Its slot is free then.
@@ -150,7 +150,8 @@ HeadsTell = OfShown (λ n t c words.
 -- and a load of a number of settled cells tells where it is that of all
 abbrev pub CountsTell : Type 0
 CountsTell = OfShown (λ n t c words.
-    (v : Seen) (x : ℕ) → x < n → Knows t v
+    (settled : ℕ → Bool) (duties : ℕ → ℕ) → AreCounted t settled duties → (v : Seen) (x : ℕ) → x < n
+    → Knows t v
     → CountFound x (slice_index words (count_place x)) v (all_seen t))
 
 -- the words that slots open with show the first segments

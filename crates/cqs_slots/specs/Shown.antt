@@ -1,5 +1,5 @@
 -- What the words of a table show of its segments, and what holds of these.
-use Rattle.std.specs.Prelude.{◌≡◌, ◌≢◌, ◌⊎◌, ℕ, ◌+◌, ◌*◌, ◌<◌, ◌≤◌, Bool, List, length, slice_index}
+use Rattle.std.specs.Prelude.{◌≡◌, ◌≢◌, ◌⊎◌, ℕ, ◌+◌, ◌*◌, ◌<◌, ◌≤◌, ◌^◌, Bool, List, length, slice_index}
 use Rattle.cqs_core.specs.Parts.{Has}
 use Rattle.cqs_words.specs.Cell.{index_in}
 use Rattle.cqs_words.specs.Segment.{segment_word}
@@ -33,6 +33,7 @@ pub record SlotSound (t : Segments) (x : ℕ) (slot : Slot) : Type 0 where
       → (s ≡ t.tail) × (t.lit ≡ t.tail) × (i < s) × IsHome t.kept s i
   pub last : (s : ℕ) → IsHome t.homes s x → IsLast slot s
   pub low : last_id slot ≤ t.tail
+  pub named : IsHome t.homes (last_id slot) x ⊎ (last_id slot ≡ 0)
   pub out : (s : ℕ) → IsHome t.homes s x
       → IsSegment slot s ⊎ (Has s t.outs × (t.counted s ≡ 32))
   pub gone : (s : ℕ) → IsSegment slot s → Has s t.outs → ⊥
@@ -58,6 +59,7 @@ pub record AreSound (n : ℕ) (t : Segments) : Type 0 where
   pub full : (s : ℕ) → t.counted s ≡ 32 → Has s t.full
   pub full_is : (s : ℕ) → Has s t.full → t.counted s ≡ 32
   pub few : n ≤ 65536
+  pub short : t.tail < 2 ^ 36
 
 -- each cell's word has its number, and is empty where its segment isn't made
 pub record AreCells (c : ℕ → ℕ) (tail : ℕ) : Type 0 where

@@ -1,5 +1,5 @@
 -- What a pass knows of the segments, and what the words that it finds tell it.
-use Rattle.std.specs.Prelude.{◌≡◌, ◌≢◌, ℕ, ◌+◌, ◌<◌, ◌≤◌, length}
+use Rattle.std.specs.Prelude.{◌≡◌, ◌≢◌, ◌⊎◌, ℕ, ◌+◌, ◌^◌, ◌<◌, ◌≤◌, length}
 use Rattle.cqs_core.specs.Parts.{Has, IsPrefix}
 use Rattle.cqs_words.specs.Head.{head_word}
 use Rattle.cqs_words.specs.Segment.{segment_word}
@@ -33,16 +33,25 @@ pub record TailFound (slots n : ℕ) (w : Seen) : Type 0 where
   pub word : n ≡ segment_word id slot
   pub home : IsHome w.homes id slot
   pub last : length w.homes ≡ id + 1
+  pub stands : Has id w.outs → ⊥
   pub low : slot < slots
+  pub id_fits : id < 2 ^ 36
+  pub slot_fits : slot < 2 ^ 16
+  pub inside : (s x : ℕ) → IsHome w.homes s x → x < slots
 
 -- the head of the slot x was found to be n
 pub record HeadFound (x n : ℕ) (v w : Seen) : Type 0 where
-  pub live : (s : ℕ) → n ≡ head_word s 2 → IsHome w.homes s x × (s < w.lit)
+  pub live : (s : ℕ) → n ≡ head_word s 2
+      → IsHome w.homes s x × (s < w.lit) × (Has s w.outs → ⊥)
   pub gone : (s : ℕ) → IsHome v.homes s x → s + 1 < length v.homes → n ≢ head_word s 2
       → Has s w.outs
   pub young : (s i : ℕ) → IsHome v.homes s x → n ≡ head_word i 1 → i < s → IsHome w.kept s i
   pub lit : (s : ℕ) → IsHome v.homes s x → ((i : ℕ) → n ≡ head_word i 1 → i < s → ⊥) → s < w.lit
+  pub free : (i : ℕ) → n ≡ head_word i 0 → IsHome w.homes i x ⊎ (i ≡ 0)
+  pub rising : (s i : ℕ) → IsHome v.homes s x → n ≡ head_word i 0 → s ≤ i
 
--- the number of settled cells in the slot x was found to be n
+-- The number of settled cells in the slot x was found to be n: no more than 32, where it was the
+-- home of a segment.
 pub record CountFound (x n : ℕ) (v w : Seen) : Type 0 where
-  pub full : (s : ℕ) → IsHome v.homes s x → n ≡ 32 → Has s w.full
+  pub full : (s : ℕ) → IsHome v.homes s x → 32 ≤ n → Has s w.full
+  pub early : (s : ℕ) → IsHome v.homes s x → n < 32 → Has s w.full → Has s w.outs

@@ -1,5 +1,5 @@
-use Rattle.cqs_slots.proofs.Joined.{tail-tells}
-use Rattle.cqs_slots.proofs.Loads.{head-found, count-told}
+use Rattle.cqs_slots.proofs.Joined.{tail-tells, counts-tell}
+use Rattle.cqs_slots.proofs.Loads.{head-found}
 use Rattle.cqs_slots.proofs.laws.loads_tell.Goals as goal
 
 pub returns-clause-tail : goal.returns-clause-tail
@@ -9,4 +9,4 @@ pub returns-clause-head : goal.returns-clause-head
 returns-clause-head c = head-found
 
 pub returns-clause-count : goal.returns-clause-count
-returns-clause-count c = count-told
+returns-clause-count c = counts-tell

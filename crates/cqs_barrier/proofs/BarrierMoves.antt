@@ -107,7 +107,6 @@ module _ {T : Type 0} (parties p : ℕ) (facts : Facts) (c : Hidden) (words : Li
     payload = payload;
     further = further;
     slots = facts.has.slots;
-    spares = facts.has.spares;
   }
 
   abbrev ArrivesTo : Bool → Type 0

@@ -164,12 +164,6 @@ gained-further gains nothing payload h = refl
 gained-further gains its_own payload h = refl
 gained-further gains a_debt payload h = refl
 
-gained-spares : (gains : Gains) (gain : Gain) (payload : ℕ) (h : Has)
-    → (has_gained gains gain payload h).spares ≡ h.spares
-gained-spares gains nothing payload h = refl
-gained-spares gains its_own payload h = refl
-gained-spares gains a_debt payload h = refl
-
 stage-owes : (at : Stage) (k : ℕ) → is_owing (doing_at at k) ≡ owes_at_stage at
 stage-owes stage.idle k = refl
 stage-owes stage.door k = refl
@@ -205,7 +199,7 @@ worked-carries gains row k n payload f once own = record {
   owes = stage-owes row.goes_to k;
   waits = by row.wait own;
   further = gained-further gains row.gain payload f.has;
-  spares = gained-spares gains row.gain payload f.has;
+  spares = refl;
   open_slot = refl;
 }
   where

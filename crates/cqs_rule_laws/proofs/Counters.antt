@@ -95,11 +95,6 @@ paid-further no_cost payload h = refl
 paid-further one_owed payload h = refl
 paid-further one_element payload h = refl
 
-paid-spares : (cost : Cost) (payload : ℕ) (h : Has) → (has_paid cost payload h).spares ≡ h.spares
-paid-spares no_cost payload h = refl
-paid-spares one_owed payload h = refl
-paid-spares one_element payload h = refl
-
 module _ (c : Hidden) (p k : ℕ) where
   -- a number is drawn: each cell keeps its state
   pub drawn-state : (found : Option CoreCell) (j : ℕ) → slice_get c.queue.cells k ≡ found
@@ -415,7 +410,7 @@ module _ {E S : Type 0} (object : Object E) (primitive : Primitive E S) (passes 
             owes = refl;
             waits = refl;
             further = paid-further cost payload f.has;
-            spares = paid-spares cost payload f.has;
+            spares = refl;
             open_slot = refl;
           },
           tt,
@@ -536,7 +531,7 @@ module _ {E S : Type 0} (object : Object E) (primitive : Primitive E S) (passes 
             owes = refl;
             waits = refl;
             further = paid-further cost payload f.has;
-            spares = paid-spares cost payload f.has;
+            spares = refl;
             open_slot = refl;
           },
           subst (λ z. IsBehind z f) (sym next) stands.behind,

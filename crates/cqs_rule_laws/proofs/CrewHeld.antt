@@ -69,10 +69,6 @@ pub lessened-further : (gives : ℕ) (h : OwnHas) → (has_less gives h).further
 lessened-further zero h = refl
 lessened-further (suc n) h = refl
 
-pub lessened-spares : (gives : ℕ) (h : OwnHas) → (has_less gives h).spares ≡ h.spares
-lessened-spares zero h = refl
-lessened-spares (suc n) h = refl
-
 -- a pass that gives nothing keeps its slots, and one that gives some has none
 pub keeps-less : {E S : Type 0} (opens : OwnHas → ℕ → Type 0) (gives : ℕ) (v : View E S) → MayGive opens gives v.facts
     → Keeps opens v (facts_lessened gives v.facts)

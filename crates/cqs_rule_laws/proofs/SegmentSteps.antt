@@ -1,7 +1,6 @@
 -- The steps on the words of segments: what each makes of the segments keeps the rule.
-use Rattle.std.proofs.Common.{◌≡◌, ◌≢◌, ◌⊎◌, ℕ, ◌+◌, ◌*◌, ◌%◌, ◌^◌, ◌<◌, ◌≤◌, List, [], ◌∷◌, ◌++◌, length, length-append, set, sym, refl, ap, ◌∙◌, subst, ⊎_elim, inl, inr, arith, eqb, eq-eqb, ne_eqb, Option}
+use Rattle.std.proofs.Common.{◌≡◌, ◌≢◌, ◌⊎◌, ℕ, ◌+◌, ◌-◌, ◌*◌, ◌%◌, ◌^◌, ◌<◌, ◌≤◌, List, [], ◌∷◌, ◌++◌, length, length-append, set, sym, refl, ap, ◌∙◌, subst, ⊎_elim, inl, inr, arith, eqb, eq-eqb, ne_eqb, Option}
 use Rattle.std.specs.Prelude.{slice_index, slice_set}
-use Rattle.std.proofs.lemmas.List.{append-nil}
 use prog.Atomic.{either}
 use mathlib.Core.Option.{some}
 use mathlib.Core.Logic.{dite}
@@ -15,7 +14,7 @@ use Rattle.cqs_words.specs.Segment.{segment_word}
 use Rattle.cqs_slots.specs.Layout.{tail_place, head_place, count_place, slot_cell, empty_word}
 use Rattle.cqs_slots.specs.Slots.{Segments, free, spare, fresh, live, IsHome, IsLater, slot_head}
 use Rattle.cqs_slots.specs.Shown.{Shows, AreSound, AreCells, Becomes}
-use Rattle.cqs_slots.specs.Told.{Knows, all_seen, TailFound}
+use Rattle.cqs_slots.specs.Told.{Knows, all_seen, TailFound, HeadFound}
 use Rattle.cqs_core.proofs.Places.{get-push_at}
 use Rattle.cqs_slots.proofs.Lists.{changed_here, changed_at, changed_else, home-prefix, has_prefix, one-home}
 use Rattle.cqs_slots.proofs.Loads as loads
@@ -23,7 +22,7 @@ use Rattle.cqs_slots.specs.Steps.{with_slot, with_tail, with_counted}
 use Rattle.cqs_slots.proofs.Claims.{claimed, claimed-is, given-back}
 use Rattle.cqs_slots.proofs.Resets.{spare-low, begun, cell-reset, count-reset}
 use Rattle.cqs_slots.proofs.Marks.{is-young, lit, retired}
-use Rattle.cqs_slots.proofs.Counts.{few-counted, count-found, counted-shows, counted-sound, counted-later, fuller-has}
+use Rattle.cqs_slots.proofs.Counts.{few-counted, most-counted, count-found, counted-shows, counted-sound, counted-later, fuller-has}
 use Rattle.cqs_slots.proofs.Turns.{is-live}
 use Rattle.cqs_slots.proofs.Extends.{extended, tail-at}
 use Rattle.cqs_rule_laws.specs.declared.view.Spare.{Spare}
@@ -33,9 +32,8 @@ use Rattle.cqs_rule_laws.specs.Layout.{slots_for}
 use Rattle.cqs_rule_laws.specs.Lists.{Has, IsDistinct, IsPrefix}
 use Rattle.cqs_rule_laws.specs.Object.{Object, Primitive}
 use Rattle.cqs_rule_laws.specs.Ruled.{Ruled, Knows as KnowsView, Stands, cell_count, word_at}
-use Rattle.cqs_rule_laws.specs.Saw.{Saw}
 use Rattle.cqs_rule_laws.specs.Segments.{KnowsSegments}
-use Rattle.cqs_rule_laws.specs.SegmentSteps.{facts_left, CellCounted, CountLoaded, Retired, claimed_slot, reset_slot, Went, TailLoaded, HeadLoaded, Claimed, Began, Reset, Lit, Extended}
+use Rattle.cqs_rule_laws.specs.SegmentSteps.{facts_left, LeftBy, CellCounted, CountLoaded, Retired, claimed_slot, reset_slot, Went, TailLoaded, HeadLoaded, Claimed, Began, Reset, Lit, Extended}
 use Rattle.cqs_rule_laws.specs.Spares.{slots_of, IsSpare, AreSpare, SparesHold}
 use Rattle.cqs_rule_laws.specs.Views.{weight, Tip}
 use Rattle.cqs_rule_laws.proofs.Advance.{still-apart, spent-set, still-kept}
@@ -72,32 +70,14 @@ module _ {E S : Type 0} (object : Object E) (primitive : Primitive E S) (passes 
     pub hold : SparesHold slots u (set s.views id (left v u spares heads duties))
 
   -- what it tells
-  pub went-saw : (s : State (Option S) (View E S)) (r : R s) (id : ℕ) (v : View E S) (u : Segments)
+  pub went-so : (s : State (Option S) (View E S)) (r : R s) (id : ℕ) (v : View E S) (u : Segments)
       (spares : List Spare)
       (heads : List (ℕ × ℕ)) (duties : List ℕ) → get_elem? s.views id ≡ some v → IsLater r.segments u
-      → Saw object v (facts_left spares heads duties v.facts) [] (left v u spares heads duties)
-  went-saw s r id v u spares heads duties here later = record {
-    between = [];
-    seen = sym (append-nil (v.seen ++ []) ∙ append-nil v.seen);
-    silent = λ n h. refl;
-    facts_are = refl;
-    same = record {
-      number = refl;
-      weight = refl;
-      own = refl;
-      crew = refl;
-      alone = refl;
-      drawn = refl;
-      limit = refl;
-      cells = refl;
-      passes = refl;
-      opening = refl;
-      segments = loads.sees-all u v.segments
-          (loads.knows-later r.segments u v.segments later (r.each_segment id v here).seen);
-    };
-    handed = ([], sym (append-nil v.handed));
-    unlaid = λ j bare. bare;
-    sole = λ a. refl;
+      → LeftBy heads spares duties v (left v u spares heads duties)
+  went-so s r id v u spares heads duties here later = record {
+    is = refl;
+    segments = loads.sees-all u v.segments
+        (loads.knows-later r.segments u v.segments later (r.each_segment id v here).seen);
   }
 
   -- it keeps the rule
@@ -237,7 +217,7 @@ module _ {E S : Type 0} (object : Object E) (primitive : Primitive E S) (passes 
       ⊎ ((i a d : ℕ) → r.segments.slots y ≡ spare i a d → ⊥))
       → ((j a d : ℕ) → r.segments.slots x ≡ spare j a d → Has x (slots_of me.0.facts.spare_slots))
       → R (stepped s i z id me.1 (went me.0 u spares heads) keeps)
-      × Went object spares heads me.0 (went me.0 u spares heads)
+      × Went spares heads me.0 (went me.0 u spares heads)
   segment-turn s r id i z x me u spares heads here one behind b made counts mine distinct claims own = (
     resegment s r id i z me.1 me.0 u spares heads me.0.facts.duties here one (record {
       behind = behind;
@@ -250,14 +230,14 @@ module _ {E S : Type 0} (object : Object E) (primitive : Primitive E S) (passes 
           (λ y j a d is none. b.others y (λ (e : y ≡ x). none (subst (λ m. Has m (slots_of me.0.facts.spare_slots))
           (sym e) (own j a d (ap r.segments.slots (sym e) ∙ is))))) r.spares;
     }),
-    went-saw s r id me.0 u spares heads me.0.facts.duties here b.later,
+    went-so s r id me.0 u spares heads me.0.facts.duties here b.later,
   )
 
   -- a step that leaves all words
   pub segment-look : (s : State (Option S) (View E S)) (r : R s) (id i : ℕ) (me : Me (Option S) (View E S))
       (heads : List (ℕ × ℕ)) → get_elem? s.views id ≡ some me.0 → me.0.weight ≡ 1 → 112 ≤ i
       → R (stepped s i (slice_index s.words i) id me.1 (went me.0 r.segments me.0.facts.spare_slots heads) keeps)
-      × Went object me.0.facts.spare_slots heads me.0 (went me.0 r.segments me.0.facts.spare_slots heads)
+      × Went me.0.facts.spare_slots heads me.0 (went me.0 r.segments me.0.facts.spare_slots heads)
   segment-look s r id i me heads here one behind =
       let same : slice_set s.words i (slice_index s.words i) ≡ s.words = set-get_or s.words i 0 in (
         resegment s r id i (slice_index s.words i) me.1 me.0 r.segments me.0.facts.spare_slots heads me.0.facts.duties
@@ -272,7 +252,7 @@ module _ {E S : Type 0} (object : Object E) (primitive : Primitive E S) (passes 
                   (went me.0 r.segments me.0.facts.spare_slots heads) here (r.spares.are id me.0 here)
                   (r.spares.once id me.0 here) (λ y h. inl h) (λ y j a d is none. refl) r.spares;
             }),
-        went-saw s r id me.0 r.segments me.0.facts.spare_slots heads me.0.facts.duties here
+        went-so s r id me.0 r.segments me.0.facts.spare_slots heads me.0.facts.duties here
             (loads.later-same r.segments),
       )
 
@@ -300,7 +280,7 @@ module _ {E S : Type 0} (object : Object E) (primitive : Primitive E S) (passes 
 
   -- a load of the tail
   pub loads-tail : (many id : ℕ) (me : Me (Option S) (View E S)) → me.0.weight ≡ 1
-      → Allows R many id me tail_place (λ n. n) (λ n me'. TailLoaded object me.0 n me'.0 × (me'.1 ≡ me.1))
+      → Allows R many id me tail_place (λ n. n) (λ n me'. TailLoaded me.0 n me'.0 × (me'.1 ≡ me.1))
   loads-tail many id me one s r homes here small =
       let t = segment-look s r id tail_place me [] here one (omega arith) in
       let w = went me.0 r.segments me.0.facts.spare_slots [] in
@@ -313,7 +293,7 @@ module _ {E S : Type 0} (object : Object E) (primitive : Primitive E S) (passes 
           record {
             found = subst (λ z. TailFound (slots_for z) (slice_index s.words tail_place) w.segments) (sym cells)
                 (loads.tail-found slots r.segments (word_at r.hidden) s.words r.cells.shows r.cells.sound w.segments
-                refl).0;
+                refl refl).0;
             went = t.1;
           },
           refl,
@@ -322,7 +302,7 @@ module _ {E S : Type 0} (object : Object E) (primitive : Primitive E S) (passes 
 
   -- a load of a head
   pub loads-head : (many id : ℕ) (me : Me (Option S) (View E S)) (x : ℕ) → me.0.weight ≡ 1 → x < slots_for me.0.cells
-      → Allows R many id me (head_place x) (λ n. n) (λ n me'. HeadLoaded object x me.0 n me'.0 × (me'.1 ≡ me.1))
+      → Allows R many id me (head_place x) (λ n. n) (λ n me'. HeadLoaded x me.0 n me'.0 × (me'.1 ≡ me.1))
   loads-head many id me x one below s r homes here small =
       let n = slice_index s.words (head_place x) in
       let t = segment-look s r id (head_place x) me ((x, n) ∷ []) here one (omega arith) in
@@ -345,10 +325,10 @@ module _ {E S : Type 0} (object : Object E) (primitive : Primitive E S) (passes 
   -- a free slot is claimed, where its head still says so
   pub claims : (many id : ℕ) (me : Me (Option S) (View E S)) (x i : ℕ) → me.0.weight ≡ 1 → x < slots_for me.0.cells
       → Allows R many id me (head_place x) (λ n. either (eqb n (head_word i 0)) (head_word i 1) n)
-      (λ n me'. Claimed object x (head_word i 0) me.0 n me'.0 × (me'.1 ≡ me.1))
+      (λ n me'. Claimed x (head_word i 0) me.0 n me'.0 × (me'.1 ≡ me.1))
   claims many id me x i one below s r homes here small =
       by-exchange s id me (head_place x) n (head_word i 0) (head_word i 1)
-      (λ w. Claimed object x (head_word i 0) me.0 n w)
+      (λ w. Claimed x (head_word i 0) me.0 n w)
       (λ e.
       let was : t.slots x ≡ free i = claimed-is slots t (word_at c) s.words r.cells.shows r.cells.sound x low i e in
       let u = with_slot t x (spare i 0 0) t.outs t.lit in
@@ -378,11 +358,11 @@ module _ {E S : Type 0} (object : Object E) (primitive : Primitive E S) (passes 
       (λ j a d is. absurd (fresh-slot j a d is)) in (
         went v u (l ++ claimed_slot x ∷ []) ((x, n) ∷ []),
         new.0,
-        record { made = λ _. new.1; missed = λ a. absurd (a e) },
+        record { found = head; made = λ _. new.1; missed = λ a. absurd (a e) },
       ))
       (λ a.
       let q = segment-look s r id (head_place x) me ((x, n) ∷ []) here one (omega arith) in
-      (went v t l ((x, n) ∷ []), q.0, record { made = λ e. absurd (a e); missed = λ _. q.1 }))
+      (went v t l ((x, n) ∷ []), q.0, record { found = head; made = λ e. absurd (a e); missed = λ _. q.1 }))
     where
       v : View E S
       v = me.0
@@ -402,6 +382,10 @@ module _ {E S : Type 0} (object : Object E) (primitive : Primitive E S) (passes 
       low : x < slots_for (cell_count passes limit primitive.values)
       low = subst (λ z. x < slots_for z) (r.each_view id me.0 here (omega arith)).cells_are below
 
+      head : HeadFound x n v.segments (all_seen t)
+      head = loads.head-found slots t (word_at c) s.words r.cells.shows r.cells.sound v.segments x low
+          (r.each_segment id me.0 here).seen
+
       not-spare : (k j a d : ℕ) → free k ≡ spare j a d → ⊥
       not-spare k j a d q = absurd (cc)
 
@@ -413,7 +397,7 @@ module _ {E S : Type 0} (object : Object E) (primitive : Primitive E S) (passes 
       → AreCells (word_at r.hidden) u.tail → ((q : ℕ) → u.counted q ≡ r.segments.counted q)
       → ((j a d : ℕ) → r.segments.slots x ≡ spare j a d → ⊥)
       → R (stepped s i z id me.1 (went me.0 u me.0.facts.spare_slots heads) keeps)
-      × Went object me.0.facts.spare_slots heads me.0 (went me.0 u me.0.facts.spare_slots heads)
+      × Went me.0.facts.spare_slots heads me.0 (went me.0 u me.0.facts.spare_slots heads)
   keep-turn s r id i z x me u heads here one behind b made counts no-spare =
       let l = me.0.facts.spare_slots in
       let old = r.spares.are id me.0 here in
@@ -445,7 +429,7 @@ module _ {E S : Type 0} (object : Object E) (primitive : Primitive E S) (passes 
       → AreCells (word_at r.hidden) u.tail → ((q : ℕ) → u.counted q ≡ r.segments.counted q)
       → IsSpare slots u (reset_slot x e f)
       → R (stepped s i z id me.1 (went me.0 u (before ++ reset_slot x e f ∷ []) heads) keeps)
-      × Went object (before ++ reset_slot x e f ∷ []) heads me.0 (went me.0 u (before ++ reset_slot x e f ∷ []) heads)
+      × Went (before ++ reset_slot x e f ∷ []) heads me.0 (went me.0 u (before ++ reset_slot x e f ∷ []) heads)
   spare-turn s r id i z x a d e f me u before heads here one behind is b made counts mine =
       let l = last-spare s r id me.0 before (reset_slot x a d) here is in
       let same : slots_of (before ++ reset_slot x e f ∷ []) ≡ slots_of me.0.facts.spare_slots =
@@ -468,7 +452,7 @@ module _ {E S : Type 0} (object : Object E) (primitive : Primitive E S) (passes 
       → Becomes slots x r.segments u (word_at r.hidden) (slice_set s.words i z)
       → AreCells (word_at r.hidden) u.tail → ((q : ℕ) → u.counted q ≡ r.segments.counted q)
       → R (stepped s i z id me.1 (went me.0 u before heads) keeps)
-      × Went object before heads me.0 (went me.0 u before heads)
+      × Went before heads me.0 (went me.0 u before heads)
   spent-turn s r id i z x a d me u before heads here one behind is b made counts =
       let l = last-spare s r id me.0 before (reset_slot x a d) here is in
       let all : slots_of me.0.facts.spare_slots ≡ slots_of before ++ x ∷ [] =
@@ -483,7 +467,7 @@ module _ {E S : Type 0} (object : Object E) (primitive : Primitive E S) (passes 
   -- the tail is loaded, and the reset of the last spare begins
   pub begins : (many id : ℕ) (me : Me (Option S) (View E S)) (before : List Spare) (x a d : ℕ) → me.0.weight ≡ 1
       → me.0.facts.spare_slots ≡ before ++ reset_slot x a d ∷ []
-      → Allows R many id me tail_place (λ n. n) (λ n me'. Began object before x me.0 n me'.0 × (me'.1 ≡ me.1))
+      → Allows R many id me tail_place (λ n. n) (λ n me'. Began before x me.0 n me'.0 × (me'.1 ≡ me.1))
   begins many id me before x a d one is s r homes here small =
       let v = me.0 in
       let t = r.segments in
@@ -503,20 +487,26 @@ module _ {E S : Type 0} (object : Object E) (primitive : Primitive E S) (passes 
       }) in
       let w = went v u (before ++ reset_slot x t.tail 1 ∷ []) [] in
       let cells = (r.each_view id v here (omega arith)).cells_are in
-      let found = loads.tail-found slots t (word_at r.hidden) s.words r.cells.shows r.cells.sound w.segments refl in (
+      let found = loads.tail-found slots t (word_at r.hidden) s.words r.cells.shows r.cells.sound w.segments refl refl
+      in (
         w,
         keeps,
         tt,
         new.0,
         (
           record {
+            fits = let few = r.cells.sound.few in let low = sp.low in omega arith;
             found = record {
               id = t.tail;
               slot = found.0.slot;
               word = subst (λ z. n ≡ segment_word z found.0.slot) found.1 found.0.word;
               home = subst (λ z. IsHome w.segments.homes z found.0.slot) found.1 found.0.home;
               last = subst (λ z. length w.segments.homes ≡ z + 1) found.1 found.0.last;
+              stands = λ h. found.0.stands (subst (λ z. Has z w.segments.outs) (sym found.1) h);
               low = subst (λ z. found.0.slot < slots_for z) (sym cells) found.0.low;
+              id_fits = let fits = found.0.id_fits in omega arith;
+              slot_fits = found.0.slot_fits;
+              inside = λ y z at. subst (λ m. z < slots_for m) (sym cells) (found.0.inside y z at);
             };
             went = new.1;
           },
@@ -528,7 +518,7 @@ module _ {E S : Type 0} (object : Object E) (primitive : Primitive E S) (passes 
   pub resets : (many id : ℕ) (me : Me (Option S) (View E S)) (before : List Spare) (x a j : ℕ) → me.0.weight ≡ 1
       → me.0.facts.spare_slots ≡ before ++ reset_slot x a (j + 1) ∷ [] → j < 32
       → Allows R many id me (slot_cell x j) (λ _. empty_word (32 * (a + 1) + j))
-      (λ _ me'. Reset object before x a (j + 1) me.0 me'.0 × (me'.1 ≡ me.1))
+      (λ _ me'. Reset before x a (j + 1) me.0 me'.0 × (me'.1 ≡ me.1))
   resets many id me before x a j one is few s r homes here small =
       let t = r.segments in
       let sp = (last-spare s r id me.0 before (reset_slot x a (j + 1)) here is).1 in
@@ -549,7 +539,7 @@ module _ {E S : Type 0} (object : Object E) (primitive : Primitive E S) (passes 
         tt,
         new.0,
         (
-          subst (λ z. Went object (before ++ reset_slot x a z ∷ []) [] me.0
+          subst (λ z. Went (before ++ reset_slot x a z ∷ []) [] me.0
               (went me.0 u (before ++ reset_slot x a (j + 2) ∷ []) [])) next new.1,
           refl,
         ),
@@ -558,7 +548,7 @@ module _ {E S : Type 0} (object : Object E) (primitive : Primitive E S) (passes 
   -- the number of its settled cells is
   pub resets-count : (many id : ℕ) (me : Me (Option S) (View E S)) (before : List Spare) (x a : ℕ) → me.0.weight ≡ 1
       → me.0.facts.spare_slots ≡ before ++ reset_slot x a 33 ∷ []
-      → Allows R many id me (count_place x) (λ _. 0) (λ _ me'. Reset object before x a 33 me.0 me'.0 × (me'.1 ≡ me.1))
+      → Allows R many id me (count_place x) (λ _. 0) (λ _ me'. Reset before x a 33 me.0 me'.0 × (me'.1 ≡ me.1))
   resets-count many id me before x a one is s r homes here small =
       let t = r.segments in
       let sp = (last-spare s r id me.0 before (reset_slot x a 33) here is).1 in
@@ -577,9 +567,9 @@ module _ {E S : Type 0} (object : Object E) (primitive : Primitive E S) (passes 
   pub lights : (many id : ℕ) (me : Me (Option S) (View E S)) (x q i : ℕ) → me.0.weight ≡ 1
       → IsHome me.0.segments.homes q x → IsHome me.0.segments.kept q i → i < q
       → Allows R many id me (head_place x) (λ n. either (eqb n (head_word i 1)) (head_word q 2) n)
-      (λ n me'. Lit object q me.0 me'.0 × (me'.1 ≡ me.1))
+      (λ n me'. Lit q me.0 me'.0 × (me'.1 ≡ me.1))
   lights many id me x q i one home keeps-id lower s r homes here small =
-      by-exchange s id me (head_place x) n (head_word i 1) (head_word q 2) (λ w. Lit object q me.0 w)
+      by-exchange s id me (head_place x) n (head_word i 1) (head_word q 2) (λ w. Lit q me.0 w)
       (λ e.
       let was = is-young slots t (word_at r.hidden) s.words r.cells.shows r.cells.sound x q at i lower e in
       let u = with_slot t x (live q) t.outs (q + 1) in
@@ -622,12 +612,12 @@ module _ {E S : Type 0} (object : Object E) (primitive : Primitive E S) (passes 
   -- the tail goes on to the pass's last spare, unless it was found to be another
   pub extends : (many id : ℕ) (me : Me (Option S) (View E S)) (before : List Spare) (x a slot : ℕ) → me.0.weight ≡ 1
       → me.0.facts.spare_slots ≡ before ++ reset_slot x a 34 ∷ [] → IsHome me.0.segments.homes a slot
-      → a < me.0.segments.lit
+      → a < me.0.segments.lit → a + 1 < 2 ^ 36
       → Allows R many id me tail_place (λ n. either (eqb n (segment_word a slot)) (segment_word (a + 1) x) n)
-      (λ n me'. Extended object before x a slot me.0 n me'.0 × (me'.1 ≡ me.1))
-  extends many id me before x a slot one is home lit-up s r homes here small =
+      (λ n me'. Extended before x a slot me.0 n me'.0 × (me'.1 ≡ me.1))
+  extends many id me before x a slot one is home lit-up short s r homes here small =
       by-exchange s id me tail_place n (segment_word a slot) (segment_word (a + 1) x)
-      (λ w. Extended object before x a slot me.0 n w)
+      (λ w. Extended before x a slot me.0 n w)
       (λ e.
       let f = tail-at slots t (word_at r.hidden) s.words r.cells.shows r.cells.sound in
       let few = r.cells.sound.few in
@@ -644,7 +634,7 @@ module _ {E S : Type 0} (object : Object E) (primitive : Primitive E S) (passes 
       subst (λ z. Becomes slots x t u (word_at r.hidden) (slice_set s.words tail_place (segment_word (z + 1) x)))
       (sym tail)
       (extended slots t (word_at r.hidden) s.words r.cells.shows r.cells.sound r.cells.made x sp.id sp.low low
-      (sp.is ∙ ap (λ z. spare sp.id z 34) tail) up) in
+      (sp.is ∙ ap (λ z. spare sp.id z 34) tail) up (omega arith)) in
       let long = r.cells.sound.made in
       let new = spent-turn s r id tail_place (segment_word (a + 1) x) x a 34 me u before [] here one (omega arith) is b
       (record {
@@ -673,7 +663,7 @@ module _ {E S : Type 0} (object : Object E) (primitive : Primitive E S) (passes 
           made = λ e. absurd (d e);
           found = λ _. subst (λ z. TailFound (slots_for z) n w.segments)
               (sym (r.each_view id me.0 here (omega arith)).cells_are)
-              (loads.tail-found slots t (word_at r.hidden) s.words r.cells.shows r.cells.sound w.segments refl).0;
+              (loads.tail-found slots t (word_at r.hidden) s.words r.cells.shows r.cells.sound w.segments refl refl).0;
           missed = λ _. look.1;
         },
       ))
@@ -693,35 +683,32 @@ module _ {E S : Type 0} (object : Object E) (primitive : Primitive E S) (passes 
       sp : IsSpare slots r.segments (reset_slot x a 34)
       sp = (last-spare s r id me.0 before (reset_slot x a 34) here is).1
 
-  -- a spare slot is given back
-  pub gives-back : (many id : ℕ) (me : Me (Option S) (View E S)) (before : List Spare) (x a d i : ℕ) → me.0.weight ≡ 1
+  -- The pass's last spare is given back: its head is claimed, and one less is free.
+  pub gives-back : (many id : ℕ) (me : Me (Option S) (View E S)) (before : List Spare) (x a d : ℕ) → me.0.weight ≡ 1
       → me.0.facts.spare_slots ≡ before ++ reset_slot x a d ∷ []
-      → Allows R many id me (head_place x) (λ n. either (eqb n (head_word i 1)) (head_word i 0) n)
-      (λ n me'. ((n ≡ head_word i 1 → Went object before [] me.0 me'.0)
-      × (n ≢ head_word i 1 → Went object me.0.facts.spare_slots [] me.0 me'.0)) × (me'.1 ≡ me.1))
-  gives-back many id me before x a d i one is s r homes here small =
+      → Allows R many id me (head_place x) (λ n. (n + (2 ^ 64 - 1)) % 2 ^ 64)
+      (λ n me'. Went before [] me.0 me'.0 × (me'.1 ≡ me.1))
+  gives-back many id me before x a d one is s r homes here small =
       let t = r.segments in
       let n = slice_index s.words (head_place x) in
       let sp = (last-spare s r id me.0 before (reset_slot x a d) here is).1 in
-      by-exchange s id me (head_place x) n (head_word i 1) (head_word i 0)
-      (λ w. (n ≡ head_word i 1 → Went object before [] me.0 w)
-      × (n ≢ head_word i 1 → Went object me.0.facts.spare_slots [] me.0 w))
-      (λ e.
-      let same : sp.id ≡ i =
-      let h : head_word i 1 ≡ head_word sp.id 1 = sym e ∙ ((r.cells.shows.each x sp.low).head ∙ ap slot_head sp.is) in
-      omega arith in
-      let u = with_slot t x (free i) t.outs t.lit in
-      let new = spent-turn s r id (head_place x) (head_word i 0) x a d me u before [] here one (omega arith) is
-      (given-back slots t (word_at r.hidden) s.words r.cells.shows r.cells.sound x sp.low i a d
-      (sp.is ∙ ap (λ z. spare z a d) same)) r.cells.made (λ q. refl) in
-      (went me.0 u before [], new.0, ((λ _. new.1), (λ m. absurd (m e)))))
-      (λ m.
-      let look = segment-look s r id (head_place x) me [] here one (omega arith) in
-      (went me.0 t me.0.facts.spare_slots [], look.0, ((λ e. absurd (m e)), (λ _. look.1))))
+      let claimed-head : n ≡ head_word sp.id 1 = (r.cells.shows.each x sp.low).head ∙ ap slot_head sp.is in
+      let exact : (n + (2 ^ 64 - 1)) % 2 ^ 64 ≡ head_word sp.id 0 = omega arith in
+      let u = with_slot t x (free sp.id) t.outs t.lit in
+      let new = spent-turn s r id (head_place x) (head_word sp.id 0) x a d me u before [] here one (omega arith) is
+      (given-back slots t (word_at r.hidden) s.words r.cells.shows r.cells.sound x sp.low sp.id a d sp.is)
+      r.cells.made (λ q. refl) in
+      let w = went me.0 u before [] in (
+        w,
+        keeps,
+        tt,
+        subst (λ z. R (stepped s (head_place x) z id me.1 w keeps)) (sym exact) new.0,
+        (new.1, refl),
+      )
 
   -- a load of a number of settled cells
   pub loads-count : (many id : ℕ) (me : Me (Option S) (View E S)) (x : ℕ) → me.0.weight ≡ 1 → x < slots_for me.0.cells
-      → Allows R many id me (count_place x) (λ n. n) (λ n me'. CountLoaded object x me.0 n me'.0 × (me'.1 ≡ me.1))
+      → Allows R many id me (count_place x) (λ n. n) (λ n me'. CountLoaded x me.0 n me'.0 × (me'.1 ≡ me.1))
   loads-count many id me x one below s r homes here small =
       let t = segment-look s r id (count_place x) me [] here one (omega arith) in
       let cells = (r.each_view id me.0 here (omega arith)).cells_are in (
@@ -732,7 +719,9 @@ module _ {E S : Type 0} (object : Object E) (primitive : Primitive E S) (passes 
         (
           record {
             found = loads.count-told slots r.segments (word_at r.hidden) s.words r.cells.shows r.cells.sound
-                me.0.segments x (subst (λ z. x < slots_for z) cells below) (r.each_segment id me.0 here).seen;
+                me.0.segments x (subst (λ z. x < slots_for z) cells below) (r.each_segment id me.0 here).seen
+                (λ q. most-counted r.segments r.settled (duties_in (λ (y : View E S). y.facts.duties) s.views) q
+                r.counted);
             went = t.1;
           },
           refl,
@@ -743,7 +732,7 @@ module _ {E S : Type 0} (object : Object E) (primitive : Primitive E S) (passes 
   pub counts : (many id : ℕ) (me : Me (Option S) (View E S)) (before : List ℕ) (x q : ℕ) → me.0.weight ≡ 1
       → me.0.facts.duties ≡ before ++ q ∷ [] → IsHome me.0.segments.homes q x
       → Allows R many id me (count_place x) (λ n. (n + 1) % 2 ^ 64)
-      (λ n me'. CellCounted object before q me.0 n me'.0 × (me'.1 ≡ me.1))
+      (λ n me'. CellCounted before q me.0 n me'.0 × (me'.1 ≡ me.1))
   counts many id me before x q one is home s r homes here small =
       let v = me.0 in
       let t = r.segments in
@@ -789,7 +778,11 @@ module _ {E S : Type 0} (object : Object E) (primitive : Primitive E S) (passes 
           record {
             few = omega arith;
             full = λ all. fuller-has t.full (t.counted q) q (omega arith);
-            saw = went-saw s r id v u v.facts.spare_slots [] before here later;
+            early = λ less h.
+                let all = (counted-sound slots t c s.words r.cells.shows r.cells.sound q x at few).full_is q h in
+                let now : u.counted q ≡ t.counted q + 1 = changed_here t.counted q (t.counted q + 1) in
+                absurd (omega arith);
+            left = went-so s r id v u v.facts.spare_slots [] before here later;
           },
           refl,
         ),
@@ -799,33 +792,35 @@ module _ {E S : Type 0} (object : Object E) (primitive : Primitive E S) (passes 
   pub retires : (many id : ℕ) (me : Me (Option S) (View E S)) (x q : ℕ) → me.0.weight ≡ 1
       → IsHome me.0.segments.homes q x → q + 1 < length me.0.segments.homes → Has q me.0.segments.full
       → Allows R many id me (head_place x) (λ n. either (eqb n (head_word q 2)) (head_word q 0) n)
-      (λ n me'. Retired object q me.0 me'.0 × (me'.1 ≡ me.1))
+      (λ n me'. Retired x q me.0 n me'.0 × (me'.1 ≡ me.1))
   retires many id me x q one home early full s r homes here small =
-      by-exchange s id me (head_place x) n (head_word q 2) (head_word q 0) (λ w. Retired object q me.0 w)
+      by-exchange s id me (head_place x) n (head_word q 2) (head_word q 0) (λ w. Retired x q me.0 n w)
       (λ e.
       let was : t.slots x ≡ live q = is-live (t.slots x) q (sym e ∙ (r.cells.shows.each x below).head) in
       let u = with_slot t x (free q) (t.outs ++ q ∷ []) t.lit in
       let long : length t.homes ≡ length (me.0.segments.homes ++ known.homes.0) = ap length known.homes.1 in
       let more = length-append me.0.segments.homes known.homes.0 in
       let made = r.cells.sound.made in
-      let new = keep-turn s r id (head_place x) (head_word q 0) x me u [] here one (omega arith)
+      let new = keep-turn s r id (head_place x) (head_word q 0) x me u ((x, n) ∷ []) here one (omega arith)
       (retired slots t (word_at r.hidden) s.words r.cells.shows r.cells.sound x q at (omega arith)
       (has_prefix q me.0.segments.full t.full known.full full) e) r.cells.made (λ _. refl)
       (λ j a d is. no-spare j a d (sym was ∙ is)) in (
-        went me.0 u me.0.facts.spare_slots [],
+        went me.0 u me.0.facts.spare_slots ((x, n) ∷ []),
         new.0,
         record {
           out = has_right q t.outs (q ∷ []) (inl refl);
+          last = λ _. (t.outs, refl);
           went = new.1;
         },
       ))
       (λ a.
-      let look = segment-look s r id (head_place x) me [] here one (omega arith) in (
-        went me.0 t me.0.facts.spare_slots [],
+      let look = segment-look s r id (head_place x) me ((x, n) ∷ []) here one (omega arith) in (
+        went me.0 t me.0.facts.spare_slots ((x, n) ∷ []),
         look.0,
         record {
           out = (loads.head-found slots t (word_at r.hidden) s.words r.cells.shows r.cells.sound me.0.segments x below
               known).gone q home early a;
+          last = λ e. absurd (a e);
           went = look.1;
         },
       ))

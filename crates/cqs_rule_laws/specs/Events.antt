@@ -73,7 +73,6 @@ module _ {E : Type 0} (event : Event E) where
     payload = event.payload m;
     further = event.further m;
     slots = event.slots m;
-    spares = m.facts.has.spares;
   }
 
   -- what the pass is at after the step, made at this place

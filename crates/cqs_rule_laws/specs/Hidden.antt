@@ -96,11 +96,10 @@ abbrev pub has_both : Has → Has → Has
 has_both mine theirs = record mine {
   held = mine.held + theirs.held;
   slots = mine.slots ++ theirs.slots;
-  spares = mine.spares + theirs.spares;
 }
 
 abbrev pub has_none : Has → Has
-has_none theirs = record theirs { held = 0; slots = []; spares = 0 }
+has_none theirs = record theirs { held = 0; slots = [] }
 
 -- what a pass has that gave so much of what it held: where it gave nothing, what it had
 abbrev pub has_less : ℕ → Has → Has

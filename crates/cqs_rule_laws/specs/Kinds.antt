@@ -81,5 +81,5 @@ pub record Carries (gains : ℕ → ℕ) (row : StepRow) (f g : Facts) : Type 0 
   pub waits : length g.waits + closed (change_by row).waits
       ≡ length f.waits + opened (change_by row).waits
   pub further : g.has.further ≡ further_then (change_by row) f.has.further
-  pub spares : g.has.spares ≡ f.has.spares
+  pub spares : g.spare_slots ≡ f.spare_slots
   pub open_slot : g.open_slot ≡ f.open_slot

@@ -225,7 +225,7 @@ pub record CarriesLearned (gains : ℕ → ℕ) (learned : Learned) (f g : Facts
   pub owes : is_owing g.doing ≡ owes_learned learned (is_owing f.doing)
   pub waits : length g.waits + closed_learned learned ≡ length f.waits
   pub further : g.has.further ≡ f.has.further
-  pub spares : g.has.spares ≡ f.has.spares
+  pub spares : g.spare_slots ≡ f.spare_slots
   pub open_slot : g.open_slot ≡ f.open_slot
   pub ticket : (k : ℕ) → g.doing ≡ doing.Ticket k → f.doing ≡ doing.Ticket k
 

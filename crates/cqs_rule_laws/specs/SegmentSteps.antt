@@ -1,25 +1,22 @@
 -- The steps on the words of segments: none is an event, and each leaves its pass at what it was at,
 -- but for the slots that it has spare.
-use Rattle.std.specs.Prelude.{◌≡◌, ◌≢◌, ℕ, ◌+◌, ◌<◌, List, [], ◌∷◌, ◌++◌, length}
+use Rattle.std.specs.Prelude.{◌≡◌, ◌≢◌, ℕ, ◌+◌, ◌<◌, ◌^◌, List, [], ◌∷◌, ◌++◌, length}
+use Rattle.cqs_words.specs.Head.{head_word}
 use Rattle.cqs_words.specs.Segment.{segment_word}
 use Rattle.cqs_slots.specs.Slots.{IsHome}
-use Rattle.cqs_slots.specs.Told.{TailFound, HeadFound, CountFound}
+use Rattle.cqs_slots.specs.declared.seen.Seen.{Seen}
+use Rattle.cqs_slots.specs.Told.{TailFound, HeadFound, CountFound, SeesMore}
 use Rattle.cqs_rule_laws.specs.declared.view.Facts.{Facts}
 use Rattle.cqs_rule_laws.specs.declared.view.Spare.{Spare}
 use Rattle.cqs_rule_laws.specs.declared.view.View.{View}
 use Rattle.cqs_rule_laws.specs.Layout.{slots_for}
 use Rattle.cqs_rule_laws.specs.Lists.{Has}
-use Rattle.cqs_rule_laws.specs.Object.{Object}
-use Rattle.cqs_rule_laws.specs.Saw.{Saw}
 
 -- a pass at these facts that has these slots spare and these cells to count, and found these heads
 -- besides
 abbrev pub facts_left : List Spare → List (ℕ × ℕ) → List ℕ → Facts → Facts
 facts_left spares heads duties f =
     record f { spare_slots = spares; heads = f.heads ++ heads; duties = duties }
-
-abbrev pub facts_spared : List Spare → List (ℕ × ℕ) → Facts → Facts
-facts_spared spares heads f = facts_left spares heads f.duties f
 
 -- a slot that was claimed just now
 abbrev pub claimed_slot : ℕ → Spare
@@ -29,10 +26,22 @@ claimed_slot x = record { slot = x; after = 0; done = 0 }
 abbrev pub reset_slot : ℕ → ℕ → ℕ → Spare
 reset_slot x after done = record { slot = x; after = after; done = done }
 
-module _ {E S : Type 0} (object : Object E) where
+module _ {E S : Type 0} where
+  -- the view at these facts, with these segments seen
+  abbrev pub view_left : List Spare → List (ℕ × ℕ) → List ℕ → Seen → View E S → View E S
+  view_left spares heads duties seen v =
+      record v { facts = facts_left spares heads duties v.facts; segments = seen }
+
+  -- All that the pass knows stays, but for these spare slots, heads and cells to count; and of the
+  -- segments it has seen more.
+  pub record LeftBy (heads : List (ℕ × ℕ)) (spares : List Spare) (duties : List ℕ) (v w : View E S)
+      : Type 0 where
+    pub is : w ≡ view_left spares heads duties w.segments v
+    pub segments : SeesMore v.segments w.segments
+
   -- a step was made that leaves the pass these spare slots
   abbrev pub Went : List Spare → List (ℕ × ℕ) → View E S → View E S → Type 0
-  Went spares heads v w = Saw object v (facts_spared spares heads v.facts) [] w
+  Went spares heads v w = LeftBy heads spares v.facts.duties v w
 
   -- the tail was loaded
   pub record TailLoaded (v : View E S) (n : ℕ) (w : View E S) : Type 0 where
@@ -46,6 +55,7 @@ module _ {E S : Type 0} (object : Object E) where
 
   -- a free slot was claimed, where its head still was this
   pub record Claimed (x expected : ℕ) (v : View E S) (n : ℕ) (w : View E S) : Type 0 where
+    pub found : HeadFound x n v.segments w.segments
     pub made : n ≡ expected
         → Went (v.facts.spare_slots ++ claimed_slot x ∷ []) ((x, n) ∷ []) v w
     pub missed : n ≢ expected → Went v.facts.spare_slots ((x, n) ∷ []) v w
@@ -54,6 +64,7 @@ module _ {E S : Type 0} (object : Object E) where
   -- after the tail's.
   pub record Began (before : List Spare) (x : ℕ) (v : View E S) (n : ℕ) (w : View E S) : Type 0
     where
+      pub fits : x < 2 ^ 16
       pub found : TailFound (slots_for v.cells) n w.segments
       pub went : Went (before ++ reset_slot x found.id 1 ∷ []) [] v w
 
@@ -81,14 +92,16 @@ module _ {E S : Type 0} (object : Object E) where
     where
       pub few : n < 32
       pub full : n ≡ 31 → Has s w.segments.full
-      pub saw : Saw object v (facts_left v.facts.spare_slots [] before v.facts) [] w
+      pub early : n < 31 → Has s w.segments.full → ⊥
+      pub left : LeftBy [] v.facts.spare_slots before v w
 
   -- the number of settled cells in the slot x was loaded
   pub record CountLoaded (x : ℕ) (v : View E S) (n : ℕ) (w : View E S) : Type 0 where
     pub found : CountFound x n v.segments w.segments
     pub went : Went v.facts.spare_slots [] v w
 
-  -- the segment left by this step, or had left before
-  pub record Retired (s : ℕ) (v w : View E S) : Type 0 where
+  -- The segment left by this step, and is the last that did; or it had left before.
+  pub record Retired (x s : ℕ) (v : View E S) (n : ℕ) (w : View E S) : Type 0 where
     pub out : Has s w.segments.outs
-    pub went : Went v.facts.spare_slots [] v w
+    pub last : n ≡ head_word s 2 → (before : List ℕ) × (w.segments.outs ≡ before ++ s ∷ [])
+    pub went : Went v.facts.spare_slots ((x, n) ∷ []) v w

@@ -18,9 +18,9 @@ use Rattle.cqs_rule_laws.specs.Lists as lists
 pub use Rattle.cqs_words.specs.Crew.{made_in, live_in}
 use Rattle.cqs_words.specs.Crew.{crew_word}
 
--- what a pass has that holds so much, owes nothing, and has no value slot in hand and no spare one
+-- what a pass has that holds so much, owes nothing, and has no value slot in hand
 abbrev pub first_has : ℕ → Has
-first_has held = record { held = held; payload = 0; further = 0; slots = []; spares = 0 }
+first_has held = record { held = held; payload = 0; further = 0; slots = [] }
 
 -- what the first pass is at
 abbrev pub first_facts : ℕ → Facts

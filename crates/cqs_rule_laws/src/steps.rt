@@ -1,5 +1,5 @@
 //! The steps on a word of a client's table, by a seat, of which each keeps the rule: a load, a sum,
-//! bits set, and an exchange. What they tell a pass that is alone is proved here once.
+//! bits set, a store, and an exchange. What they tell a pass that is alone is proved here once.
 
 ghost use Rattle.std.specs.Prelude.{◌≡◌, ◌+◌, ◌%◌, ◌^◌, ◌<◌, ◌==◌, bit_or};
 ghost use mathlib.Core.Option.{none};
@@ -74,6 +74,27 @@ pub fn or_at<C: ClientWords, T: Telling<C>>(
     ensures alone { TellsAlone C.primitive seat.new.me.0 }
 {
     words.fetch_or::<Told<C, T>>(seat, word as usize, bits)
+}
+
+/// Writes `new` to the word, whatever it was.
+#[inline(always)]
+pub fn store_at<C: ClientWords, T: Telling<C>>(
+    words: &Shared<Option<C::Slot>, View<C::Entry, C::Slot>, Key<C>, Rule<C>>,
+    seat: &mut Seat<Option<C::Slot>, View<C::Entry, C::Slot>>,
+    word: u32,
+    new: u64,
+)
+    requires table { seat.old.table_id ≡ words.now.table_id }
+    requires inside { word < words.now.table_id.words }
+    requires allowed { IsAllowed C.object C.primitive words.now.key words.now.table_id.slots
+        seat.old.id seat.old.me word (λ _. new)
+        (λ _. T.told (step words.now.table_id.slots word new 0 none) seat.old.me new) }
+    ensures table { seat.new.table_id ≡ seat.old.table_id }
+    ensures told { T.told (step words.now.table_id.slots word new 0 none) seat.old.me new
+        seat.new.me }
+    ensures alone { TellsAlone C.primitive seat.new.me.0 }
+{
+    words.store::<Told<C, T>>(seat, word as usize, new);
 }
 
 /// Writes `new` to the word, if it is `saw`.

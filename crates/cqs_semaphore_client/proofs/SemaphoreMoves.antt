@@ -130,7 +130,6 @@ module _ (permits p : ℕ) (facts : Facts) (c : Hidden) (words : List ℕ) (log 
     payload = facts.has.payload;
     further = facts.has.further;
     slots = facts.has.slots;
-    spares = facts.has.spares;
   }
 
   abbrev TakesTo : Bool → Type 0
@@ -218,7 +217,6 @@ module _ (permits p : ℕ) (facts : Facts) (c : Hidden) (words : List ℕ) (log 
     payload = 0;
     further = facts.has.further;
     slots = facts.has.slots;
-    spares = facts.has.spares;
   }
 
   abbrev GivesTo : Bool → Type 0

@@ -1,0 +1,5 @@
+mod Allowed
+pub mod Endings
+mod Extensions
+mod Taken
+pub mod Walks

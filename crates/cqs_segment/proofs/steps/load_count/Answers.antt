@@ -1,0 +1,15 @@
+use Rattle.cqs_segment.proofs.Allowed.{count-allowed}
+use Rattle.cqs_segment.proofs.steps.load_count.Goals as goal
+
+pub load_at-requires-clause-allowed : goal.load_at-requires-clause-allowed
+load_at-requires-clause-allowed g c =
+    let C = g.C.ClientWords in
+    let k = c.args.words.now.key in
+    count-allowed C.object (C.primitive k.client) k.passes k.limit _ _ _ _ c.args.slot c.count_at.ensures
+    c.requires.walker.one c.requires.low
+
+pub returns-clause-loaded : goal.returns-clause-loaded
+returns-clause-loaded g c = c.load_at.ensures.told.0 c.args.slot c.count_at.ensures
+
+pub returns-clause-bare : goal.returns-clause-bare
+returns-clause-bare g c = c.load_at.ensures.told.1

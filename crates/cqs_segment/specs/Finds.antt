@@ -1,0 +1,37 @@
+-- Where a segment is told to be, and what became of it.
+use Rattle.std.specs.Prelude.{◌≡◌, ◌≢◌, ℕ, ◌+◌, ◌<◌, ◌≤◌, ◌++◌, [], ◌∷◌, List, length}
+use Rattle.cqs_words.specs.Head.{head_word}
+use Rattle.cqs_slots.specs.Slots.{IsHome}
+use Rattle.cqs_rule_laws.specs.declared.view.View.{View}
+use Rattle.cqs_rule_laws.specs.Layout.{slots_for}
+use Rattle.cqs_rule_laws.specs.Lists.{Has}
+use Rattle.cqs_rule_laws.specs.SegmentSteps.{LeftBy}
+use Rattle.cqs_segment.specs.declared.walk.Found.{Found}
+use Rattle.cqs_segment.specs.declared.walk.Found.TheVariants.{At, Over, Far}
+use Rattle.cqs_segment.specs.declared.leaving.Retired.{Retired}
+use Rattle.cqs_segment.specs.declared.leaving.Retired.TheVariants.{Out, Gone, Last, Early}
+
+-- The segment was made in this slot, which is its home for good, and stood there when that was
+-- loaded; or it was taken out; or it wasn't made when the tail was loaded.
+abbrev pub Finds : {E S : Type 0} → ℕ → Found → View E S → Type 0
+Finds s (At x) w =
+    IsHome w.segments.homes s x × (x < slots_for w.cells) × (Has s w.segments.outs → ⊥)
+Finds s Over w = Has s w.segments.outs
+Finds s Far w = length w.segments.homes ≤ s
+
+-- The segment left by this call, whose exchange found its head live; or it had left before, and the
+-- exchange found another head; it is the last; or fewer than 32 cells were loaded as counted: where
+-- all were, it had left, and the slot is another's. The pass has what it had.
+abbrev pub Retires : {E S : Type 0} → ℕ → ℕ → Retired → View E S → View E S → Type 0
+Retires x s Out v w =
+    ((before : List ℕ) × (w.segments.outs ≡ before ++ s ∷ []))
+    × LeftBy ((x, head_word s 2) ∷ []) v.facts.spare_slots v.facts.duties v w
+Retires x s Gone v w =
+    Has s w.segments.outs
+    × ((n : ℕ) × (n ≢ head_word s 2)
+    × LeftBy ((x, n) ∷ []) v.facts.spare_slots v.facts.duties v w)
+Retires x s Last v w =
+    (length w.segments.homes ≡ s + 1) × LeftBy [] v.facts.spare_slots v.facts.duties v w
+Retires x s (Early counted) v w =
+    (counted < 32) × (Has s w.segments.full → Has s w.segments.outs)
+    × LeftBy [] v.facts.spare_slots v.facts.duties v w

@@ -1,0 +1,5 @@
+pub mod Walks
+pub mod Told
+pub mod Slots
+pub mod Finds
+pub mod Extends

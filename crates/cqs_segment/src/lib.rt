@@ -1,0 +1,30 @@
+//! The calls on segments, by a seat of a table: a slot is claimed and given back, a segment is
+//! made, found, counted and taken out.
+//!
+//! ```text
+//!           claim               extend: reset, make_live, exchange of the tail
+//!  Free ------------> Claimed ------------------------------------------------> Live
+//!   ^ ^                  |                                                        |
+//!   | '--- give_back ----'                                                        |
+//!   '------ retire: all 32 cells were counted (count_settled), and it isn't the last one
+//! ```
+//!
+//! No call here makes an event of the queue: what the pass has seen of the history, does and holds
+//! stays. Each is a few single steps, of which each keeps the rule of `cqs_rule_laws`. The pass's
+//! view knows its spare slots, the cells that it is to count and what it knows of segments; here
+//! the caller names a slot by its number.
+#![tactic(auto)]
+
+mod extending;
+mod heads;
+mod leaving;
+mod places;
+mod slots;
+mod steps;
+mod told;
+mod walk;
+
+pub use extending::{Extended, extend};
+pub use leaving::{Retired, count_settled, retire};
+pub use slots::{claim, confirm, give_back};
+pub use walk::{Found, find, last};

@@ -16,6 +16,7 @@ pub record Stays {E S : Type 0} (v w : View E S) : Type 0 where
   pub has : w.facts.has ≡ v.facts.has
   pub waits : w.facts.waits ≡ v.facts.waits
   pub open_slot : w.facts.open_slot ≡ v.facts.open_slot
+  pub spare_slots : w.facts.spare_slots ≡ v.facts.spare_slots
 
 module _ {C E S : Type 0} (object : Object E) (primitive : C → Primitive E S) where
   pub same-made : (s : QueueStep) (row : StepRow) (k expected : ℕ) (v : View E S) (n : ℕ) (w : View E S)
@@ -44,5 +45,6 @@ module _ {C E S : Type 0} (object : Object E) (primitive : C → Primitive E S) 
         has = ap (λ (f : Facts). f.has) saw.facts_are;
         waits = ap (λ (f : Facts). f.waits) saw.facts_are;
         open_slot = ap (λ (f : Facts). f.open_slot) saw.facts_are;
+        spare_slots = ap (λ (f : Facts). f.spare_slots) saw.facts_are;
       }
   stays-missed s (at_counter row) k expected v n w crossed other = absurd crossed

@@ -1,5 +1,6 @@
 -- What a pass keeps that takes in another one.
-use Rattle.std.proofs.Common.{◌≡◌, ℕ, ◌+◌, ◌<◌, ◌∙◌, List, ◌++◌, length, Option, sym, ap, subst}
+use Rattle.std.proofs.Common.{◌≡◌, ℕ, ◌+◌, ◌<◌, ◌∙◌, List, [], ◌++◌, length, Option, sym, ap, subst}
+use Rattle.std.proofs.lemmas.List.{append-nil}
 use Rattle.cqs_rule_laws.specs.declared.client.ClientWords.{Ghosts}
 use Rattle.cqs_rule.specs.declared.queue.Pass.{Pass}
 use Rattle.cqs_rule.specs.Passes.{pass_view}
@@ -11,6 +12,7 @@ use Rattle.cqs_rule_laws.specs.Layout.{words_for}
 use Rattle.cqs_rule_laws.specs.Saw.{IsLive}
 use Rattle.cqs_rule_laws.specs.Views.{facts_joined, joined}
 use Rattle.cqs_rule.proofs.Moved.{Keeps}
+use Rattle.cqs_rule.proofs.Spared.{same-spares}
 
 module _ {C S E : Type 0} {g : Ghosts C S E} where
   -- what is left of the two passes
@@ -53,16 +55,20 @@ module _ {C S E : Type 0} {g : Ghosts C S E} where
   items-as p given j is = ap (λ (z : View E S × List (ℕ × Option S)). z.1) is
 
   pub keeps-met : (p given : Pass C S E g) (w : View E S) → Gathered p given w → IsLive g.object w
-      → (items : List (ℕ × Option S)) (words : ℕ) → items ≡ p.seat.me.1 → p.seat.table_id.words ≡ words
-      → Keeps w items words p.number (p.held + given.held) p.further p.owes p.waits p.ticket
-  keeps-met p given w gathered live items words none table =
+      → (pass_view given).facts.spare_slots ≡ [] → (items : List (ℕ × Option S)) (words : ℕ) → items ≡ p.seat.me.1 →
+      p.seat.table_id.words ≡ words
+      → Keeps w items words p.number (p.held + given.held) p.further p.owes p.waits p.ticket p.spares
+  keeps-met p given w gathered live spareless items words none table =
       let m = gathered.met in
       let are = m.facts_are in record {
         live = (m.weight, ap length none ∙ p.live.1);
         number_is = m.number ∙ p.number_is;
         held_is = ap (λ (f : Facts). f.has.held) are ∙ (λ i. p.held_is i + given.held_is i);
         further_is = ap (λ (f : Facts). f.has.further) are ∙ p.further_is;
-        spareless = ap (λ (f : Facts). f.has.spares) are ∙ (λ i. p.spareless i + given.spareless i);
+        spares_are = same-spares _ _ _ _ p.spares
+            (ap (λ (f : Facts). f.spare_slots) are
+            ∙ (ap (λ l. (pass_view p).facts.spare_slots ++ l) spareless ∙ append-nil _))
+            m.cells p.spares_are;
         shut = ap (λ (f : Facts). f.open_slot) are ∙ p.shut;
         owes_is = ap (λ (f : Facts). is_owing f.doing) are ∙ p.owes_is;
         waits_are = ap (λ (f : Facts). length f.waits) are ∙ p.waits_are;

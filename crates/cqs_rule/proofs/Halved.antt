@@ -9,9 +9,11 @@ use Rattle.cqs_rule_laws.specs.declared.view.View.{View}
 use Rattle.cqs_rule_laws.specs.Facts.{is_owing}
 use Rattle.cqs_rule_laws.specs.Layout.{words_for}
 use Rattle.cqs_rule_laws.specs.Views.{made_in, single, cut_off}
-use Rattle.cqs_rule_laws.proofs.CrewHeld.{lessened-held, lessened-further, lessened-spares}
+use Rattle.cqs_rule_laws.proofs.CrewHeld.{lessened-held, lessened-further}
 use Rattle.cqs_rule_laws.proofs.Tries.{Leaves, Begins}
+use Rattle.cqs_rule.specs.declared.queue.spares.Spares.TheVariants.{Nothing}
 use Rattle.cqs_rule.proofs.Moved.{Keeps}
+use Rattle.cqs_rule.proofs.Spared.{no-spares, same-spares}
 
 -- there was room for another pass
 pub room-left : {E S X : Type 0} (x : View E S × X) (u : View E S) (more : X) (n first made passes key : ℕ)
@@ -36,7 +38,7 @@ module _ {C S E : Type 0} {g : Ghosts C S E} where
   pub keeps-cut : (gives : ℕ) (v : View E S) (p : Pass C S E g) (x : View E S × List (ℕ × Option S)) (u : View E S)
       (more : List (ℕ × Option S)) → Leaves g.object gives v (pass_view p) x.0 → x ≡ (single u, more)
       → more ≡ p.seat.me.1 → (t : TableId) → t ≡ p.seat.table_id
-      → Keeps x.0 x.1 t.words p.number (p.held - gives) p.further p.owes p.waits p.ticket
+      → Keeps x.0 x.1 t.words p.number (p.held - gives) p.further p.owes p.waits p.ticket p.spares
   keeps-cut gives v p x u more l is none t table =
       let has = (pass_view p).facts.has in record {
         live = (
@@ -46,7 +48,7 @@ module _ {C S E : Type 0} {g : Ghosts C S E} where
         number_is = l.number ∙ p.number_is;
         held_is = ap (λ (f : Facts). f.has.held) l.facts ∙ (lessened-held gives has ∙ ap (λ n. n - gives) p.held_is);
         further_is = ap (λ (f : Facts). f.has.further) l.facts ∙ (lessened-further gives has ∙ p.further_is);
-        spareless = ap (λ (f : Facts). f.has.spares) l.facts ∙ (lessened-spares gives has ∙ p.spareless);
+        spares_are = same-spares _ _ _ _ p.spares (ap (λ (f : Facts). f.spare_slots) l.facts) l.cells p.spares_are;
         shut = ap (λ (f : Facts). f.open_slot) l.facts ∙ p.shut;
         owes_is = ap (λ (f : Facts). is_owing f.doing) l.facts ∙ p.owes_is;
         waits_are = ap (λ (f : Facts). length f.waits) l.facts ∙ p.waits_are;
@@ -59,14 +61,14 @@ module _ {C S E : Type 0} {g : Ghosts C S E} where
   -- the new one
   pub keeps-begun : (gives number : ℕ) (p : Pass C S E g) (x : View E S) (y : View E S × List (ℕ × Option S))
       (u : View E S) → Begins g.object gives (pass_view p) x y.0 → y ≡ (cut_off u, []) → u.second_number ≡ number
-      → (t : TableId) → t ≡ p.seat.table_id → Keeps y.0 y.1 t.words number gives 0 false 0 0
+      → (t : TableId) → t ≡ p.seat.table_id → Keeps y.0 y.1 t.words number gives 0 false 0 0 Nothing
   keeps-begun gives number p x y u b is named t table =
       let facts = b.came.facts in record {
         live = (b.weight, ap (λ (z : View E S × List (ℕ × Option S)). length z.1) is);
         number_is = ap (λ (z : View E S × List (ℕ × Option S)). z.0.number) is ∙ named;
         held_is = ap (λ (f : Facts). f.has.held) facts;
         further_is = ap (λ (f : Facts). f.has.further) facts;
-        spareless = ap (λ (f : Facts). f.has.spares) facts;
+        spares_are = no-spares _ _ (ap (λ (f : Facts). f.spare_slots) facts);
         shut = ap (λ (f : Facts). f.open_slot) facts;
         owes_is = ap (λ (f : Facts). is_owing f.doing) facts;
         waits_are = ap (λ (f : Facts). length f.waits) facts;

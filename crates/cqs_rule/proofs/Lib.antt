@@ -10,3 +10,5 @@ pub mod Slots
 pub mod Ticketless
 pub mod Words
 pub mod Histories
+mod Segments
+pub mod Spared

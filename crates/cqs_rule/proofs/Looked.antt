@@ -13,6 +13,7 @@ use Rattle.cqs_rule_laws.specs.Layout.{words_for}
 use Rattle.cqs_rule_laws.specs.Saw.{Saw}
 use Rattle.cqs_rule_laws.specs.Views.{as_before}
 use Rattle.cqs_rule.proofs.Moved.{Keeps}
+use Rattle.cqs_rule.proofs.Spared.{same-spares}
 
 module _ {C S E : Type 0} {g : Ghosts C S E} where
   -- the word stands inside the table
@@ -26,7 +27,7 @@ module _ {C S E : Type 0} {g : Ghosts C S E} where
   pub keeps-looked : (p : Pass C S E g) (w : View E S)
       → Saw g.object (pass_view p) (pass_view p).facts [] (as_before (pass_view p) w) → w.weight ≡ 1 → IsInside w
       → (items : List (ℕ × Option S)) (t : TableId) → items ≡ p.seat.me.1 → t ≡ p.seat.table_id
-      → Keeps w items t.words p.number p.held p.further p.owes p.waits p.ticket
+      → Keeps w items t.words p.number p.held p.further p.owes p.waits p.ticket p.spares
   keeps-looked p w saw weight inside items t none table =
       let same = saw.same in
       let are = saw.facts_are in record {
@@ -34,7 +35,7 @@ module _ {C S E : Type 0} {g : Ghosts C S E} where
         number_is = same.number ∙ p.number_is;
         held_is = ap (λ (f : Facts). f.has.held) are ∙ p.held_is;
         further_is = ap (λ (f : Facts). f.has.further) are ∙ p.further_is;
-        spareless = ap (λ (f : Facts). f.has.spares) are ∙ p.spareless;
+        spares_are = same-spares _ _ _ _ p.spares (ap (λ (f : Facts). f.spare_slots) are) same.cells p.spares_are;
         shut = ap (λ (f : Facts). f.open_slot) are ∙ p.shut;
         owes_is = ap (λ (f : Facts). is_owing f.doing) are ∙ p.owes_is;
         waits_are = ap (λ (f : Facts). length f.waits) are ∙ p.waits_are;

@@ -12,16 +12,19 @@ use Rattle.cqs_rule_laws.specs.Layout.{words_for}
 use Rattle.cqs_rule_laws.specs.Loads.{IsTicketOf}
 use Rattle.cqs_core.specs.declared.doings.Doing.TheVariants.{Ticket}
 use Rattle.cqs_rule_laws.specs.Saw.{IsLive}
+use Rattle.cqs_rule.specs.declared.queue.spares.Spares.{Spares}
+use Rattle.cqs_rule.specs.Spares.{HasSpare}
+use Rattle.cqs_rule.proofs.Spared.{same-spares}
 
 module _ {S E : Type 0} where
   -- what a pass with these counts keeps
-  abbrev pub Keeps : View E S → List (ℕ × Option S) → ℕ → ℕ → ℕ → ℕ → Bool → ℕ → ℕ → Type 0
-  Keeps w items words number held further owes waits ticket = record {
+  abbrev pub Keeps : View E S → List (ℕ × Option S) → ℕ → ℕ → ℕ → ℕ → Bool → ℕ → ℕ → Spares → Type 0
+  Keeps w items words number held further owes waits ticket spares = record {
     live : (w.weight ≡ 1) × (length items ≡ 0);
     number_is : w.number ≡ number;
     held_is : w.facts.has.held ≡ held;
     further_is : w.facts.has.further ≡ further;
-    spareless : w.facts.has.spares ≡ 0;
+    spares_are : HasSpare w.facts.spare_slots w.cells spares;
     shut : w.facts.open_slot ≡ None;
     owes_is : is_owing w.facts.doing ≡ owes;
     waits_are : length w.facts.waits ≡ waits;
@@ -50,7 +53,7 @@ module _ {C S E : Type 0} {g : Ghosts C S E} where
       → ((m : Moment) → m.facts.has.further ≡ p.further → m.found ≡ n → m.made ≡ made n → event.further m ≡ further)
       → ((k : ℕ) → event.doing (moment (pass_view p).opening (pass_view p).number (pass_view p).facts made n) ≡ Ticket k
       → (pass_view p).facts.doing ≡ Ticket k)
-      → Keeps w items words p.number held further owes p.waits p.ticket
+      → Keeps w items words p.number held further owes p.waits p.ticket p.spares
   keeps-moved event made place p n w told live items words held further owes none table holds owing furthers tickets =
       let v = pass_view p in
       let now = moment v.opening v.number v.facts made n in
@@ -61,7 +64,7 @@ module _ {C S E : Type 0} {g : Ghosts C S E} where
         held_is = ap (λ (f : Facts). f.has.held) are
             ∙ holds now (record { held_is = p.held_is; found_is = refl; made_is = refl });
         further_is = ap (λ (f : Facts). f.has.further) are ∙ furthers now p.further_is refl refl;
-        spareless = ap (λ (f : Facts). f.has.spares) are ∙ p.spareless;
+        spares_are = same-spares _ _ _ _ p.spares (ap (λ (f : Facts). f.spare_slots) are) same.cells p.spares_are;
         shut = ap (λ (f : Facts). f.open_slot) are ∙ p.shut;
         owes_is = ap (λ (f : Facts). is_owing f.doing) are ∙ owing now p.owes_is refl refl;
         waits_are = ap (λ (f : Facts). length f.waits) are ∙ p.waits_are;

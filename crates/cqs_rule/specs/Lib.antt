@@ -5,3 +5,5 @@ pub mod Seats
 pub mod Waits
 pub mod Owed
 pub mod Histories
+pub mod Spares
+pub mod Segments

@@ -13,6 +13,11 @@ use Rattle.cqs_rule_laws.specs.Views.{as_before, facts_joined, facts_lessened}
 abbrev pub IsBusy : Facts → Type 0
 IsBusy f = (owes_any f ≡ true) ⊎ (0 < length f.waits)
 
+-- what a pass is at that took in another, whose spare slots were given back
+abbrev pub facts_met : Facts → Facts → Facts
+facts_met mine theirs =
+    record (facts_joined mine theirs) { spare_slots = mine.spare_slots }
+
 module _ {C S E : Type 0} {g : Ghosts C S E} where
   -- the pass has seen more, appended nothing, and is at what it was
   abbrev pub HasLookedOn : Pass C S E g → Pass C S E g → Type 0
@@ -28,5 +33,5 @@ module _ {C S E : Type 0} {g : Ghosts C S E} where
   -- the pass has taken in what the given one had seen, and has what both had
   abbrev pub HasMet : Pass C S E g → Pass C S E g → Pass C S E g → Type 0
   HasMet p given p' =
-      Met g.object (pass_view p) (facts_joined (pass_view p).facts (pass_view given).facts)
+      Met g.object (pass_view p) (facts_met (pass_view p).facts (pass_view given).facts)
       (pass_view given).seen (pass_view given).handed (pass_view given).own (pass_view p')

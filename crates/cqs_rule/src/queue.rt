@@ -5,6 +5,8 @@ ghost use Rattle.cqs_rule_laws.specs.Inside.{IsInside};
 ghost use Rattle.cqs_rule_laws.specs.Layout.{words_for};
 ghost use Rattle.cqs_rule_laws.specs.Loads.{IsTicketOf};
 ghost use Rattle.cqs_rule_laws.specs.Facts.{is_owing};
+ghost use Rattle.cqs_rule.specs.Spares.{HasSpare};
+ghost use Rattle.cqs_slots.specs.Layout.{slot_words};
 
 mod histories;
 mod opening;
@@ -13,7 +15,9 @@ mod parking;
 mod putting;
 mod readers;
 mod seats;
+mod segments;
 mod slots;
+mod spares;
 mod steps;
 mod tokens;
 mod words;
@@ -22,6 +26,7 @@ use atomic_table::{Seat, Table};
 use cqs_rule_laws::{CancelMode, ClientWords, Key, Rule, View};
 use parked::Parked;
 pub(crate) use slots::Numbered;
+use spares::Spares;
 use std::alloc::Global;
 pub use tokens::{Under, Wait};
 
@@ -31,11 +36,13 @@ pub struct Queue<C: ClientWords> {
     table: Table<Option<C::Slot>, View<C::Entry, C::Slot>, Key<C>, Rule<C>, Global>,
     passes: u32,
     limit: u64,
+    segment_slots: u32,
     mode: CancelMode,
     parked: Parked,
     ghost passes_are: { table.shared.key.passes ≡ passes },
     ghost few_passes: { passes ≤ 32 },
     ghost limit_is: { table.shared.key.limit ≡ limit },
+    ghost slots_are: { table.shared.table_id.words ≡ slot_words segment_slots },
 }
 
 /// What a caller makes steps with. Contracts see what it has seen of the queue, and what it is
@@ -50,11 +57,12 @@ pub struct Pass<C: ClientWords> {
     waits: u32,
     // The last number that it drew: that of its ticket, while it has one.
     ticket: u64,
+    spares: Spares,
     pub ghost live: { (seat.me.0.weight ≡ 1) × (length seat.me.1 ≡ 0) },
     pub ghost number_is: { seat.me.0.number ≡ number },
     pub ghost held_is: { seat.me.0.facts.has.held ≡ held },
     pub ghost further_is: { seat.me.0.facts.has.further ≡ further },
-    pub ghost spareless: { seat.me.0.facts.has.spares ≡ 0 },
+    pub ghost spares_are: { HasSpare seat.me.0.facts.spare_slots seat.me.0.cells spares },
     pub ghost shut: { seat.me.0.facts.open_slot ≡ None },
     pub ghost owes_is: { is_owing seat.me.0.facts.doing ≡ owes },
     pub ghost waits_are: { length seat.me.0.facts.waits ≡ waits },

@@ -9,6 +9,7 @@ ghost use Rattle.cqs_rule_laws.specs.Ruled.{cell_count};
 ghost use Rattle.cqs_rule_laws.specs.Views.{first_view};
 
 use crate::queue::parked::Parked;
+use crate::queue::spares::Spares;
 use crate::queue::{Pass, Queue};
 use cqs_rule_laws::{CancelMode, ClientWords, Config, MakeError, open_table};
 use std::alloc::Global;
@@ -40,11 +41,13 @@ impl<C: ClientWords> Queue<C> {
             return Err(MakeError::BadConfig);
         }
         let held = client.held();
+        let cells = config.limit + u64::from(config.passes) + u64::from(client.values());
         let (table, seat) = open_table(alloc, &config, client)?;
         let queue = Queue {
             table,
             passes: config.passes,
             limit: config.limit,
+            segment_slots: (cells / 32) as u32 + 1,
             mode,
             parked: Parked::new(),
         };
@@ -58,6 +61,7 @@ impl<C: ClientWords> Queue<C> {
                 owes: false,
                 waits: 0,
                 ticket: 0,
+                spares: Spares::Nothing,
             },
         ))
     }

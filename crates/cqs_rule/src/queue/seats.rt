@@ -13,6 +13,7 @@ ghost use Rattle.cqs_rule.specs.Seats.{IsBusy, HasLookedOn, HasGiven, HasMet};
 ghost use Rattle.cqs_rule_laws.specs.Views.{made_in, live_in};
 
 use crate::plays::{Count, CountAfter, Cut, Gather, Gift, Hearing, Make, Meet, Noting};
+use crate::queue::spares::Spares;
 use crate::queue::{Pass, Queue};
 use atomic_table::Seat;
 use cqs_rule_laws::{CREW_WORD, ClientWords, Crowd, MeetError, View, add_at, exchange_at, load_at};
@@ -119,6 +120,7 @@ impl<C: ClientWords> Queue<C> {
                     owes: false,
                     waits: 0,
                     ticket: 0,
+                    spares: Spares::Nothing,
                 });
             }
             saw = found;
@@ -127,7 +129,7 @@ impl<C: ClientWords> Queue<C> {
     }
 
     /// The pass takes in the given one: it has seen what each of them had seen, and holds what both
-    /// held.
+    /// held. Slots that the given one had spare are given back.
     pub fn meet(&self, pass: &mut Pass<C>, given: Pass<C>) -> Result<(), (Pass<C>, MeetError)>
         requires belongs { IsOf self.now pass.old }
         requires given_belongs { IsOf self.now given }
@@ -144,6 +146,8 @@ impl<C: ClientWords> Queue<C> {
         if given.owes() || given.waits > 0 {
             return Err((given, MeetError::Busy));
         }
+        let mut given = given;
+        self.give_all_back(&mut given);
         let Pass { seat, held, .. } = given;
         self.table.shared.join_seat::<Gather>(&mut pass.seat, seat);
         // The sum wraps, so one fewer is there.

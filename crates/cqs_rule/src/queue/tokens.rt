@@ -1,10 +1,11 @@
 //! The tokens of a wait and of a resumption, and the readers of a pass.
 
-ghost use Rattle.std.specs.Prelude.{◌≡◌, length};
+ghost use Rattle.std.specs.Prelude.{◌≡◌, length, slice_get};
 ghost use Rattle.cqs_rule_laws.specs.Lists.{Has};
 ghost use Rattle.cqs_rule.specs.Owed.{OwesWith, IsReached, HasUnder, under_payload, under_ticket, under_reached};
 ghost use Rattle.cqs_rule.specs.Passes.{pass_view, IsOf};
 ghost use Rattle.cqs_rule_laws.specs.Placed.{KnowsPlace};
+ghost use Rattle.cqs_rule_laws.specs.Spares.{slots_of};
 ghost use Rattle.cqs_rule_laws.specs.Facts.{owes_any};
 ghost use Rattle.cqs_rule.specs.Waits.{place_of, pass_of, HasWait};
 
@@ -132,11 +133,18 @@ impl<C: ClientWords> Pass<C> {
         self.held
     }
 
-    /// How many slots for segments it has spare: none, as long as the table has no segments.
+    /// How many slots for segments it has spare: 0 to 2. The claims of `Queue` get them.
     pub fn spares(&self) -> u32
-        ensures { result ≡ (pass_view self.now).facts.has.spares }
+        ensures { result ≡ length (pass_view self.now).facts.spare_slots }
     {
-        0
+        self.spares.count()
+    }
+
+    /// The spare slot at this place, in the order in which they were claimed.
+    pub fn spare(&self, place: u32) -> Option<u32>
+        ensures { result ≡ slice_get (slots_of (pass_view self.now).facts.spare_slots) place }
+    {
+        self.spares.at(place)
     }
 
     /// Whether it owes: a resumption, one that it is at or a further one, or the end of a

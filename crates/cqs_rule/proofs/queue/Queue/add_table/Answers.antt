@@ -4,6 +4,7 @@ use Rattle.cqs_rule_laws.specs.Kinds.{change_of, further_then}
 use Rattle.cqs_rule_laws.specs.Layout.{words_for}
 use Rattle.cqs_rule_laws.proofs.Counters.{count, counter-low}
 use Rattle.cqs_rule.proofs.Numbers.{draws}
+use Rattle.cqs_rule.proofs.Spared.{same-spares}
 use Rattle.cqs_rule.proofs.queue.Queue.add_table.Goals as goal
 
 pub add_at-found-requires-clause-inside : goal.add_at-found-requires-clause-inside
@@ -38,7 +39,7 @@ invariant_of-pass g c =
       further_is = carries.further
           ∙ (ap (further_then (change_of s)) p.further_is
           ∙ (ap (λ z. further_then z p.further) (sym is) ∙ sym c.further_after-pass.ensures));
-      spareless = carries.spares ∙ p.spareless;
+      spares_are = same-spares _ _ _ _ p.spares carries.spares same.cells p.spares_are;
       shut = carries.open_slot ∙ p.shut;
       owes_is = carries.owes ∙ ap (λ z. z.owes) (sym is);
       waits_are = counts.waits ∙ p.waits_are;

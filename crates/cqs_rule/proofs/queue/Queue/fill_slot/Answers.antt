@@ -7,6 +7,7 @@ use Rattle.cqs_rule_laws.specs.Slots.{laid_in}
 use Rattle.cqs_rule_laws.proofs.Swaps.{inside-swapped, live-swapped, alone-swapped}
 use Rattle.cqs_rule_laws.proofs.Tries.{none-slots}
 use Rattle.cqs_rule.proofs.Slots.{fill-by, only-by, handed-by}
+use Rattle.cqs_rule.proofs.Spared.{same-spares}
 use Rattle.cqs_rule.proofs.queue.Queue.fill_slot.Goals as goal
 
 pub put_first-requires-clause-item : goal.put_first-requires-clause-item
@@ -36,7 +37,7 @@ invariant_of-pass g c =
       number_is = ap (λ z. z.number) is ∙ p.number_is;
       held_is = ap (λ z. z.facts.has.held) is ∙ p.held_is;
       further_is = ap (λ z. z.facts.has.further) is ∙ p.further_is;
-      spareless = ap (λ z. z.facts.has.spares) is ∙ p.spareless;
+      spares_are = same-spares _ _ _ _ p.spares (ap (λ z. z.facts.spare_slots) is) (ap (λ z. z.cells) is) p.spares_are;
       shut = ap (λ z. z.facts.open_slot) is ∙ p.shut;
       owes_is = ap (λ z. is_owing z.facts.doing) is ∙ p.owes_is;
       waits_are = ap (λ (z : View _ _). length z.facts.waits) is ∙ p.waits_are;

@@ -2,6 +2,7 @@ use Rattle.std.proofs.Common.{rules, refl, ◌<◌, ◌∙◌, ap, sym, subst, l
 use Rattle.cqs_rule_laws.specs.Layout.{words_for}
 use Rattle.cqs_rule_laws.specs.Loads.{CarriesLearned}
 use Rattle.cqs_rule_laws.proofs.CellLoads.{loads, load-low, learns-at}
+use Rattle.cqs_rule.proofs.Spared.{same-spares}
 use Rattle.cqs_rule.proofs.queue.Queue.load_table.Goals as goal
 
 pub load_at-found-requires-clause-inside : goal.load_at-found-requires-clause-inside
@@ -34,7 +35,7 @@ invariant_of-pass g c =
       number_is = same.number ∙ p.number_is;
       held_is = carries.held ∙ p.held_is;
       further_is = carries.further ∙ p.further_is;
-      spareless = carries.spares ∙ p.spareless;
+      spares_are = same-spares _ _ _ _ p.spares carries.spares same.cells p.spares_are;
       shut = carries.open_slot ∙ p.shut;
       owes_is = carries.owes ∙ p.owes_is;
       waits_are = omega arith;
@@ -59,7 +60,7 @@ invariant_of-pass-in-Ended g c =
       number_is = same.number ∙ p.number_is;
       held_is = carries.held ∙ p.held_is;
       further_is = carries.further ∙ p.further_is;
-      spareless = carries.spares ∙ p.spareless;
+      spares_are = same-spares _ _ _ _ p.spares carries.spares same.cells p.spares_are;
       shut = carries.open_slot ∙ p.shut;
       owes_is = carries.owes;
       waits_are = omega arith;

@@ -6,6 +6,7 @@ use Rattle.cqs_rule_laws.specs.Facts.{is_owing}
 use Rattle.cqs_rule_laws.specs.Layout.{words_for}
 use Rattle.cqs_rule_laws.specs.Ruled.{cell_count}
 use Rattle.cqs_rule_laws.proofs.Opens.{config-bounds}
+use Rattle.cqs_rule.proofs.Spared.{no-spares}
 use Rattle.cqs_rule.proofs.queue.Queue.new.Goals as goal
 
 few-cells : (config : Config) (values : ℕ) → is_config config ≡ true → values ≤ 4096
@@ -25,7 +26,7 @@ invariant_of-result g c =
       number_is = ap (λ z. z.number) me;
       held_is = ap (λ z. z.facts.has.held) me ∙ sym c.held-held.ensures;
       further_is = ap (λ z. z.facts.has.further) me;
-      spareless = ap (λ z. z.facts.has.spares) me;
+      spares_are = no-spares _ _ (ap (λ z. z.facts.spare_slots) me);
       shut = ap (λ z. z.facts.open_slot) me;
       owes_is = ap (λ z. is_owing z.facts.doing) me;
       waits_are = ap (λ (z : View _ _). length z.facts.waits) me;

@@ -4,6 +4,7 @@ use Rattle.cqs_rule_laws.proofs.CellPlaces.{resumes-inside}
 use Rattle.cqs_rule_laws.proofs.Putting.{MayPut, put}
 use Rattle.cqs_core.specs.QueueSteps.{puts, row_of}
 use Rattle.cqs_rule.proofs.Numbers.{drawn-ticket}
+use Rattle.cqs_rule.proofs.Spared.{same-spares}
 use Rattle.cqs_rule.proofs.queue.Queue.put_at.Goals as goal
 
 pub add_at-found-requires-clause-inside : goal.add_at-found-requires-clause-inside
@@ -42,7 +43,7 @@ invariant_of-pass g c =
       number_is = same.number ∙ p.number_is;
       held_is = carries.held ∙ p.held_is;
       further_is = carries.further ∙ p.further_is;
-      spareless = carries.spares ∙ p.spareless;
+      spares_are = same-spares _ _ _ _ p.spares carries.spares same.cells p.spares_are;
       shut = carries.open_slot ∙ p.shut;
       owes_is = carries.owes;
       waits_are = omega arith;

@@ -6,6 +6,7 @@ use Rattle.cqs_rule_laws.specs.Layout.{words_for}
 use Rattle.cqs_rule_laws.proofs.Swaps.{inside-swapped, live-swapped, alone-swapped}
 use Rattle.cqs_rule_laws.proofs.Tries.{none-slots}
 use Rattle.cqs_rule.proofs.Slots.{swap-by, only-by, lay-by}
+use Rattle.cqs_rule.proofs.Spared.{same-spares}
 use Rattle.cqs_rule.proofs.queue.Queue.swap_slot.Goals as goal
 
 pub put_back-requires-clause-item : goal.put_back-requires-clause-item
@@ -30,7 +31,7 @@ invariant_of-pass g c =
       number_is = ap (λ z. z.number) is ∙ p.number_is;
       held_is = ap (λ z. z.facts.has.held) is ∙ p.held_is;
       further_is = ap (λ z. z.facts.has.further) is ∙ p.further_is;
-      spareless = ap (λ z. z.facts.has.spares) is ∙ p.spareless;
+      spares_are = same-spares _ _ _ _ p.spares (ap (λ z. z.facts.spare_slots) is) (ap (λ z. z.cells) is) p.spares_are;
       shut = ap (λ z. z.facts.open_slot) is ∙ p.shut;
       owes_is = ap (λ z. is_owing z.facts.doing) is ∙ p.owes_is;
       waits_are = ap (λ (z : View _ _). length z.facts.waits) is ∙ p.waits_are;

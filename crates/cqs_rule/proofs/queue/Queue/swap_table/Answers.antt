@@ -6,6 +6,7 @@ use Rattle.cqs_rule_laws.specs.Facts.{is_owing}
 use Rattle.cqs_rule_laws.specs.Layout.{words_for}
 use Rattle.cqs_words.specs.Cell.{index_in}
 use Rattle.cqs_rule.proofs.Crossed.{same-made, stays-missed, ticketless}
+use Rattle.cqs_rule.proofs.Spared.{same-spares}
 use Rattle.cqs_rule.proofs.queue.Queue.swap_table.Goals as goal
 
 pub exchange_at-found-requires-clause-inside : goal.exchange_at-found-requires-clause-inside
@@ -58,7 +59,7 @@ invariant_of-pass g c =
       further_is = carries.further
           ∙ (ap (further_then (change_of s)) p.further_is
           ∙ (ap (λ z. further_then z p.further) (sym is) ∙ sym c.further_after-pass.ensures));
-      spareless = carries.spares ∙ p.spareless;
+      spares_are = same-spares _ _ _ _ p.spares carries.spares same.cells p.spares_are;
       shut = carries.open_slot ∙ p.shut;
       owes_is = carries.owes ∙ ap (λ z. z.owes) (sym is);
       waits_are = omega arith;
@@ -83,7 +84,7 @@ invariant_of-pass-else-found-saw g c =
       number_is = same.number ∙ p.number_is;
       held_is = ap (λ z. z.held) stays.has ∙ p.held_is;
       further_is = ap (λ z. z.further) stays.has ∙ p.further_is;
-      spareless = ap (λ z. z.spares) stays.has ∙ p.spareless;
+      spares_are = same-spares _ _ _ _ p.spares stays.spare_slots same.cells p.spares_are;
       shut = stays.open_slot ∙ p.shut;
       owes_is = ap is_owing stays.doing ∙ p.owes_is;
       waits_are = ap length stays.waits ∙ p.waits_are;

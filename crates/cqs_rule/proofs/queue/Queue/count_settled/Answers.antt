@@ -1,0 +1,24 @@
+use Rattle.std.proofs.Common.{[]}
+use Rattle.cqs_segment.specs.Walks.{but_last}
+use Rattle.cqs_rule.proofs.Segments.{belongs-left, keeps-left, walks}
+use Rattle.cqs_rule.proofs.queue.Queue.count_settled.Goals as goal
+
+pub count_settled-requires-clause-walker : goal.count_settled-requires-clause-walker
+count_settled-requires-clause-walker g c = walks c.args.self.now c.args.pass.now c.requires.belongs
+
+pub invariant_of-pass : goal.invariant_of-pass
+invariant_of-pass g c =
+    let p = c.args.pass.now in
+    let v = p.seat.me.0 in
+    let seat = c.count_settled.new.seat in
+    let left = c.count_settled.ensures.counted in
+    keeps-left p seat.me.0 [] v.facts.spare_slots (but_last v.facts.duties) p.spares left p.spares_are
+    seat.me.1 seat.table_id c.count_settled.ensures.bare c.count_settled.ensures.table
+
+pub returns-clause-belongs : goal.returns-clause-belongs
+returns-clause-belongs g c =
+    let p = c.args.pass.now in
+    let v = p.seat.me.0 in
+    let left = c.count_settled.ensures.counted in
+    belongs-left c.args.self.now p _ [] v.facts.spare_slots (but_last v.facts.duties) c.requires.belongs left
+    c.count_settled.ensures.table

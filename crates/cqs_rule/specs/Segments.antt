@@ -1,0 +1,54 @@
+-- What the calls on segments leave, by the pass before and after.
+use Rattle.std.specs.Prelude.{ℕ, List, [], ◌∷◌, ◌++◌}
+use Rattle.cqs_words.specs.declared.segment.TailWord.{TailWord}
+use Rattle.cqs_rule_laws.specs.declared.client.ClientWords.{Ghosts}
+use Rattle.cqs_rule_laws.specs.declared.view.Spare.{Spare}
+use Rattle.cqs_rule_laws.specs.Layout.{slots_for}
+use Rattle.cqs_rule_laws.specs.SegmentSteps.{claimed_slot, LeftBy}
+use Rattle.cqs_segment.specs.declared.extending.Extended.{Extended}
+use Rattle.cqs_segment.specs.Extends.{ExtendsTo}
+use Rattle.cqs_segment.specs.Walks.{but_last, EndsWith, Left}
+use Rattle.cqs_rule.specs.declared.queue.Pass.{Pass}
+use Rattle.cqs_rule.specs.Passes.{pass_view}
+
+module _ {C S E : Type 0} {g : Ghosts C S E} where
+  -- how many slots for segments the pass's table has
+  abbrev pub slot_count : Pass C S E g → ℕ
+  slot_count p = slots_for (pass_view p).cells
+
+  -- those that it has spare
+  abbrev pub spares_of : Pass C S E g → List Spare
+  spares_of p = (pass_view p).facts.spare_slots
+
+  -- The pass has these slots spare and these cells to count now; all else that it knows is as it
+  -- was, but that it has seen more of the segments.
+  abbrev pub HasLeft : List Spare → List ℕ → Pass C S E g → Pass C S E g → Type 0
+  HasLeft spares duties p p' = Left spares duties (pass_view p) (pass_view p')
+
+  -- it has what it had
+  abbrev pub HasPassed : Pass C S E g → Pass C S E g → Type 0
+  HasPassed p p' = HasLeft (spares_of p) (pass_view p).facts.duties p p'
+
+  -- and looked at no head
+  abbrev pub HasStayed : Pass C S E g → Pass C S E g → Type 0
+  HasStayed p p' = LeftBy [] (spares_of p) (pass_view p).facts.duties (pass_view p) (pass_view p')
+
+  -- it has one cell less to count, the last, and looked at no head
+  abbrev pub HasCounted : Pass C S E g → Pass C S E g → Type 0
+  HasCounted p p' =
+      LeftBy [] (spares_of p) (but_last (pass_view p).facts.duties) (pass_view p) (pass_view p')
+
+  -- it has one slot more, the last
+  abbrev pub HasClaimed : Pass C S E g → Pass C S E g → Type 0
+  HasClaimed p p' =
+      (x : ℕ) × HasLeft (spares_of p ++ claimed_slot x ∷ []) (pass_view p).facts.duties p p'
+
+  -- it has one less, the last, and looked at no head
+  abbrev pub HasGivenBack : Pass C S E g → Pass C S E g → Type 0
+  HasGivenBack p p' =
+      LeftBy [] (but_last (spares_of p)) (pass_view p).facts.duties (pass_view p) (pass_view p')
+
+  -- its last spare slot is the home of the segment after this one now, or stays spare
+  abbrev pub HasExtended : TailWord → Extended → Pass C S E g → Pass C S E g → Type 0
+  HasExtended after answer p p' =
+      (x : ℕ) × EndsWith (spares_of p) x × ExtendsTo after x answer (pass_view p) (pass_view p')

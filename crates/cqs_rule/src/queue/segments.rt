@@ -1,0 +1,157 @@
+//! The calls on segments, with a pass. Their bodies, by a seat, are those of `cqs_segment`.
+
+ghost use Rattle.std.specs.Prelude.{◌≡◌, ◌+◌, ◌*◌, ◌<◌, ◌≤◌, ◌^◌, [], length, OnErr, OnOk};
+ghost use mathlib.Core.Logic.{◌↔◌};
+ghost use Rattle.cqs_words.specs.Segment.{packed_tail};
+ghost use Rattle.cqs_slots.specs.Slots.{IsHome};
+ghost use Rattle.cqs_slots.specs.Told.{TailFound};
+ghost use Rattle.cqs_rule_laws.specs.Lists.{Has};
+ghost use Rattle.cqs_segment.specs.Finds.{Finds, Retires};
+ghost use Rattle.cqs_segment.specs.Slots.{Confirms, SawAllTaken};
+ghost use Rattle.cqs_segment.specs.Walks.{EndsAt};
+ghost use Rattle.cqs_rule.specs.Passes.{pass_view, IsOf};
+ghost use Rattle.cqs_rule.specs.Segments.{slot_count, spares_of, HasClaimed, HasCounted, HasExtended, HasGivenBack, HasLeft, HasPassed, HasStayed};
+
+use crate::queue::{Pass, Queue};
+use cqs_rule_laws::{ClientWords, Crowded};
+use cqs_segment::{Extended, Found, Retired};
+use cqs_words::TailWord;
+
+impl<C: ClientWords> Queue<C> {
+    /// Claims a free slot. Crowded comes only where each slot was seen not free at a step of this
+    /// call; the pass has what it had then.
+    pub fn claim(&self, pass: &mut Pass<C>) -> Result<(), Crowded>
+        requires belongs { IsOf self.now pass.old }
+        requires few { length (spares_of pass.old) < 2 }
+        ensures belongs { IsOf self.now pass.new }
+        ensures claimed { OnOk result (HasClaimed pass.old pass.new) }
+        ensures crowded { OnErr result (SawAllTaken (slot_count pass.old) (pass_view pass.old)
+            (pass_view pass.new)) }
+    {
+        match cqs_segment::claim::<C>(&self.table.shared, &mut pass.seat, self.segment_slots) {
+            Some(slot) => {
+                pass.spares = pass.spares.with(slot);
+                Ok(())
+            }
+            None => Err(Crowded),
+        }
+    }
+
+    /// Gives the slot back that the pass claimed last, of those that it has spare. It is free then.
+    pub fn give_back(&self, pass: &mut Pass<C>)
+        requires belongs { IsOf self.now pass.old }
+        requires some { 0 < length (spares_of pass.old) }
+        ensures belongs { IsOf self.now pass.new }
+        ensures given { HasGivenBack pass.old pass.new }
+    {
+        match pass.spares.split_last() {
+            Some((slot, others)) => {
+                cqs_segment::give_back::<C>(&self.table.shared, &mut pass.seat, slot);
+                pass.spares = others;
+            }
+            None => unreachable!(),
+        }
+    }
+
+    /// Whether the segment stands in this slot: whether the slot's head was loaded as live with
+    /// this id.
+    pub fn confirm(&self, pass: &mut Pass<C>, slot: u32, id: u64) -> bool
+        requires belongs { IsOf self.now pass.old }
+        requires low { slot < slot_count pass.old }
+        requires small { id < 2 ^ 36 }
+        ensures belongs { IsOf self.now pass.new }
+        ensures confirms { Confirms slot id result (pass_view pass.old) (pass_view pass.new) }
+    {
+        cqs_segment::confirm::<C>(&self.table.shared, &mut pass.seat, slot, id)
+    }
+
+    /// The last segment, with its slot: one load.
+    pub fn last_segment(&self, pass: &mut Pass<C>) -> TailWord
+        requires belongs { IsOf self.now pass.old }
+        ensures belongs { IsOf self.now pass.new }
+        ensures found { TailFound (slot_count pass.new) (packed_tail result)
+            (pass_view pass.new).segments }
+        ensures stayed { HasStayed pass.old pass.new }
+    {
+        cqs_segment::last::<C>(&self.table.shared, &mut pass.seat)
+    }
+
+    /// Where the segment stands: in a slot, or nowhere any more, or nowhere yet.
+    pub fn find_segment(&self, pass: &mut Pass<C>, id: u64) -> Found
+        requires belongs { IsOf self.now pass.old }
+        requires small { id < 2 ^ 36 }
+        ensures belongs { IsOf self.now pass.new }
+        ensures finds { Finds id result (pass_view pass.new) }
+        ensures passed { HasPassed pass.old pass.new }
+    {
+        cqs_segment::find::<C>(&self.table.shared, &mut pass.seat, self.segment_slots, id)
+    }
+
+    /// Makes the segment after this one in the slot that the pass claimed last, of those that it
+    /// has spare. Where the tail is found to be another, that one is answered and the slot stays
+    /// spare.
+    pub fn extend(&self, pass: &mut Pass<C>, after: TailWord) -> Extended
+        requires belongs { IsOf self.now pass.old }
+        requires some { 0 < length (spares_of pass.old) }
+        requires small { 32 * (after.id + 2) ≤ 2 ^ 40 }
+        ensures belongs { IsOf self.now pass.new }
+        ensures extended { HasExtended after result pass.old pass.new }
+    {
+        match pass.spares.split_last() {
+            Some((slot, others)) => {
+                let extended = cqs_segment::extend::<C>(
+                    &self.table.shared,
+                    &mut pass.seat,
+                    after,
+                    slot,
+                );
+                if let Extended::Made(_) = extended {
+                    pass.spares = others;
+                }
+                extended
+            }
+            None => unreachable!(),
+        }
+    }
+
+    /// Counts a cell that the pass settled: the last of those that it is to count, one of this
+    /// segment. It answers how many of the segment's cells are counted then, 1 to 32.
+    pub fn count_settled(&self, pass: &mut Pass<C>, slot: u32, id: u64) -> u32
+        requires belongs { IsOf self.now pass.old }
+        requires low { slot < slot_count pass.old }
+        requires home { IsHome (pass_view pass.old).segments.homes id slot }
+        requires last { EndsAt (pass_view pass.old).facts.duties id }
+        ensures belongs { IsOf self.now pass.new }
+        ensures some { 0 < result }
+        ensures few { result ≤ 32 }
+        ensures all { (result ≡ 32) ↔ Has id (pass_view pass.new).segments.full }
+        ensures counted { HasCounted pass.old pass.new }
+    {
+        cqs_segment::count_settled::<C>(&self.table.shared, &mut pass.seat, slot, id)
+    }
+
+    /// Takes a segment out where its 32 cells are counted and it isn't the last one. The slot is,
+    /// or was, its home.
+    pub fn retire(&self, pass: &mut Pass<C>, slot: u32, id: u64) -> Retired
+        requires belongs { IsOf self.now pass.old }
+        requires low { slot < slot_count pass.old }
+        requires small { id < 2 ^ 36 }
+        requires home { IsHome (pass_view pass.old).segments.homes id slot }
+        ensures belongs { IsOf self.now pass.new }
+        ensures retires { Retires slot id result (pass_view pass.old) (pass_view pass.new) }
+        ensures passed { HasPassed pass.old pass.new }
+    {
+        cqs_segment::retire::<C>(&self.table.shared, &mut pass.seat, slot, id)
+    }
+
+    // Gives all back that the pass has spare.
+    pub(crate) fn give_all_back(&self, pass: &mut Pass<C>)
+        requires belongs { IsOf self.now pass.old }
+        ensures belongs { IsOf self.now pass.new }
+        ensures given { HasLeft [] (pass_view pass.old).facts.duties pass.old pass.new }
+    {
+        while pass.spares() > 0 {
+            self.give_back(pass);
+        }
+    }
+}

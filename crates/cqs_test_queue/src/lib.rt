@@ -13,4 +13,6 @@ mod queue_calls;
 #[cfg(test)]
 mod seats;
 #[cfg(test)]
+mod segments;
+#[cfg(test)]
 mod threads;

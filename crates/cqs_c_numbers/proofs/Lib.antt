@@ -1,3 +1,4 @@
 pub mod MarkSteps
 pub mod BarrierNumber
+pub mod CallNumbers
 pub mod Opens

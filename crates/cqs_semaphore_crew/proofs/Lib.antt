@@ -3,3 +3,4 @@ pub mod Telling
 pub mod Meeting
 pub mod Waits
 pub mod Calls
+pub mod Hired

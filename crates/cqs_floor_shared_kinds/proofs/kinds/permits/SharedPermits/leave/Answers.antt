@@ -24,6 +24,16 @@ finish-requires-clause-owes g c =
     at c.cancel.ensures.cancelled in
     (left-owing k v u c.in-Cancelled-Some.under told.0 told.2.1).owes
 
+pub finish-requires-clause-further : goal.finish-requires-clause-further
+finish-requires-clause-further g c =
+    let k = (place_of c.wait_of-token.result).index in
+    let v = pass_view c.args.self.now.pass in
+    let u = pass_view c.cancel.new.pass in
+    let told : HasCancelled k v (Cancelled (Some c.in-Cancelled-Some.under)) u
+    = rw (c.wait_of-token.ensures.same, c.in-Cancelled-Some.is, c.in-Cancelled-Some.field-0-is)
+    at c.cancel.ensures.cancelled in
+    (left-owing k v u c.in-Cancelled-Some.under told.0 told.2.1).further
+
 pub returns-in-Cancelled-None : goal.returns-in-Cancelled-None
 returns-in-Cancelled-None g c =
     let k = (place_of c.wait_of-token.result).index in

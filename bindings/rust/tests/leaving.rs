@@ -12,18 +12,26 @@ use std::task::Waker;
 use std::thread;
 use std::time::{Duration, Instant};
 
-/// As many rounds as go into this time.
+/// As many rounds as go into this time, but no more than these: a round draws three numbers of
+/// waits, about, and a primitive has 1,048,576.
 const TIME: Duration = Duration::from_secs(2);
+const MOST_ROUNDS: u64 = 250_000;
 
 type Taking<'a, T> = Pin<Box<dyn Future<Output = Result<T, Worn>> + 'a>>;
 
+/// How long a thread looks for what the other one does, which may have failed.
+const PATIENCE: Duration = Duration::from_secs(60);
+
 /// Looks until it is so, and lets other threads run after many looks.
 fn until(is_so: impl Fn() -> bool) {
+    let mut since = None;
     for look in 1u64.. {
         if is_so() {
             return;
         }
         if look % 4096 == 0 {
+            let waited = since.get_or_insert_with(Instant::now).elapsed();
+            assert!(waited < PATIENCE, "the other thread did not come");
             thread::yield_now();
         }
         spin_loop();
@@ -70,7 +78,7 @@ fn goes_on<'a, T>(take: impl Fn() -> Taking<'a, T> + Sync) -> u64 {
         });
         for round in 0.. {
             let held = poll_once(take().as_mut(), Waker::noop()).expect("it is free").unwrap();
-            if begin.elapsed() > TIME {
+            if round == MOST_ROUNDS || begin.elapsed() > TIME {
                 last_round.store(round, Ordering::SeqCst);
                 steps.come(3 * round + 1);
                 return round;

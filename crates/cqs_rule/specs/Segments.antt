@@ -6,7 +6,9 @@ use Rattle.cqs_rule_laws.specs.declared.view.Spare.{Spare}
 use Rattle.cqs_rule_laws.specs.Layout.{slots_for}
 use Rattle.cqs_rule_laws.specs.SegmentSteps.{claimed_slot, LeftBy}
 use Rattle.cqs_segment.specs.declared.extending.Extended.{Extended}
+use Rattle.cqs_segment.specs.declared.leaving.Retired.{Retired}
 use Rattle.cqs_segment.specs.Extends.{ExtendsTo}
+use Rattle.cqs_segment.specs.Finds.{Counts, IsDoneWith}
 use Rattle.cqs_segment.specs.Walks.{but_last, EndsWith, Left}
 use Rattle.cqs_rule.specs.declared.queue.Pass.{Pass}
 use Rattle.cqs_rule.specs.Passes.{pass_view}
@@ -33,10 +35,14 @@ module _ {C S E : Type 0} {g : Ghosts C S E} where
   abbrev pub HasStayed : Pass C S E g → Pass C S E g → Type 0
   HasStayed p p' = LeftBy [] (spares_of p) (pass_view p).facts.duties (pass_view p) (pass_view p')
 
-  -- it has one cell less to count, the last, and looked at no head
-  abbrev pub HasCounted : Pass C S E g → Pass C S E g → Type 0
-  HasCounted p p' =
-      LeftBy [] (spares_of p) (but_last (pass_view p).facts.duties) (pass_view p) (pass_view p')
+  -- It has one cell less to count, the last, and looked at no head. Where so many of the cells of
+  -- its segment s are counted then as it has, the pass is to retire it.
+  abbrev pub HasCounted : ℕ → ℕ → Pass C S E g → Pass C S E g → Type 0
+  HasCounted s counted p p' = Counts s counted (pass_view p) (pass_view p')
+
+  -- it isn't to retire the segment s any more, whose home was the slot x; all else is as it was
+  abbrev pub HasRetired : ℕ → ℕ → Retired → Pass C S E g → Pass C S E g → Type 0
+  HasRetired x s answer p p' = IsDoneWith x s answer (pass_view p) (pass_view p')
 
   -- it has one slot more, the last
   abbrev pub HasClaimed : Pass C S E g → Pass C S E g → Type 0
@@ -48,7 +54,8 @@ module _ {C S E : Type 0} {g : Ghosts C S E} where
   HasGivenBack p p' =
       LeftBy [] (but_last (spares_of p)) (pass_view p).facts.duties (pass_view p) (pass_view p')
 
-  -- its last spare slot is the home of the segment after this one now, or stays spare
+  -- its last spare slot is the home of the segment after this one now, which it is to retire then;
+  -- or stays spare
   abbrev pub HasExtended : TailWord → Extended → Pass C S E g → Pass C S E g → Type 0
   HasExtended after answer p p' =
       (x : ℕ) × EndsWith (spares_of p) x × ExtendsTo after x answer (pass_view p) (pass_view p')

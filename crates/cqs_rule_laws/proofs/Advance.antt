@@ -24,6 +24,7 @@ use Rattle.cqs_slots.specs.Slots.{Segments, IsLater, IsHome, settled_in}
 use Rattle.cqs_rule_laws.specs.Manner.{IsSmart}
 use Rattle.cqs_rule_laws.specs.Settling.{times}
 use Rattle.cqs_rule_laws.proofs.Duties.{counted-set}
+use Rattle.cqs_rule_laws.proofs.ToRetire.{Leaves, leave-set}
 use Rattle.cqs_slots.proofs.Loads.{sees-same}
 use Rattle.cqs_rule_laws.specs.Segments.{KnowsSegments}
 use Rattle.cqs_rule_laws.proofs.Staying.{OthersStay}
@@ -71,10 +72,10 @@ stands-out c p facts out at = record {
   behind = record { reached = at.behind.reached; passed = at.behind.passed };
 }
 
--- and whatever slots it has spare
-pub stands-spares : (c : Hidden) (p : ℕ) (facts : Facts) (spares : List Spare) (duties : List ℕ) → Stands c p facts
-    → Stands c p (record facts { spare_slots = spares; duties = duties })
-stands-spares c p facts spares duties at = record {
+-- and whatever slots it has spare, cells it is to count, and segments it is to retire
+pub stands-spares : (c : Hidden) (p : ℕ) (facts : Facts) (spares : List Spare) (duties segments : List ℕ)
+    → Stands c p facts → Stands c p (record facts { spare_slots = spares; duties = duties; to_retire = segments })
+stands-spares c p facts spares duties segments at = record {
   doing = at.doing;
   has = at.has;
   may_draw = at.may_draw;
@@ -172,6 +173,7 @@ module _ {E S : Type 0} (object : Object E) (primitive : Primitive E S) (passes 
     pub finals : (k : ℕ) → settles k ≡ true → IsFinal (IsSmart primitive.manner.leaving) d.queue k
     pub same_slots : (y : ℕ) → now.slots y ≡ r.segments.slots y
     pub same_spares : facts.spare_slots ≡ v.facts.spare_slots
+    pub leaves : Leaves r.segments now v.facts.to_retire facts.to_retire
     pub idle_words : IdleWords (slice_set s.words i x)
     pub room : HasRoom passes limit primitive.values d
     pub door : DoorMayDraw d
@@ -269,6 +271,7 @@ module _ {E S : Type 0} (object : Object E) (primitive : Primitive E S) (passes 
             t.counts r.counted;
         spares = spares-kept (slots_for cells_of) r.segments t.now s.views id v w here t.same_spares t.same_slots
             r.spares;
+        to_leave = leave-set r.segments t.now s.views id v w here t.later.outs t.leaves r.to_leave;
         idle_words = t.idle_words;
         room = t.room;
         door = t.door;

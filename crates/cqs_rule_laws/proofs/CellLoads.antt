@@ -602,7 +602,7 @@ module _ {E S : Type 0} (object : Object E) (primitive : Primitive E S) (passes 
             last = at.last;
             behind = record { reached = at.behind.reached; passed = at.behind.passed };
           }) known.payload_fits (keeps-all primitive.opens v facts refl (λ j o. o)) (draws-cell f.found k n) refl refl
-          in
+          refl in
           let w : View E S = grown v facts (r.log ++ []) r.handed in (
             w,
             keeps,
@@ -713,7 +713,7 @@ module _ {E S : Type 0} (object : Object E) (primitive : Primitive E S) (passes 
         last = at.last;
         behind = record { reached = at.behind.reached; passed = at.behind.passed };
       }) known.payload_fits (keeps-all primitive.opens v facts refl (λ j o. o)) (draws-cell f.found (index_in n) n) refl
-      refl in
+      refl refl in
       let w : View E S = grown v facts (r.log ++ []) r.handed in (
         w,
         keeps,

@@ -44,6 +44,7 @@ use Rattle.cqs_rule_laws.specs.Object.{Object, Primitive}
 use Rattle.cqs_rule_laws.specs.Ruled.{Ruled, Knows, Stands, HasRoom, IsSince, HasGoneOn, cell_count, number_at, word_of, word_at, CellsShow, IsFinal}
 use Rattle.cqs_rule_laws.specs.Saw.{IsLive}
 use Rattle.cqs_rule_laws.specs.Views.{grown}
+use Rattle.cqs_rule_laws.proofs.ToRetire.{leaves-same}
 use Rattle.cqs_rule_laws.proofs.CellsStand.{CellAt, cell-at, set-cell, place-low}
 pub use Rattle.cqs_rule_laws.proofs.WordOf.{shown-injective, word_of-injective}
 use Rattle.cqs_rule_laws.proofs.Advance.{Turned}
@@ -413,6 +414,7 @@ module _ {E S : Type 0} (object : Object E) (primitive : Primitive E S) (passes 
             (settles_row row) refl;
         same_slots = λ y. refl;
         same_spares = refl;
+        leaves = leaves-same r.segments _;
       } in
       steps object primitive passes limit client s r id me word x d es
       (facts_worked object.gains row k n payload f) here one turned
@@ -495,7 +497,8 @@ module _ {E S : Type 0} (object : Object E) (primitive : Primitive E S) (passes 
         once = at.once;
         last = inl (refl, refl);
         behind = record { reached = at.behind.reached; passed = at.behind.passed };
-      }) known.payload_fits (keeps-all primitive.opens v facts refl (λ j o. o)) (draws-cell f.found k n) refl refl in (
+      }) known.payload_fits (keeps-all primitive.opens v facts refl (λ j o. o)) (draws-cell f.found k n) refl refl refl
+      in (
         grown v facts (r.log ++ []) r.handed,
         keeps,
         tt,

@@ -42,6 +42,7 @@ use Rattle.cqs_rule_laws.specs.Saw.{IsLive}
 use Rattle.cqs_rule_laws.specs.Slots.{laid_in}
 use Rattle.cqs_rule_laws.specs.Views.{grown}
 use Rattle.cqs_rule_laws.specs.Manner.{IsSmart}
+use Rattle.cqs_rule_laws.proofs.ToRetire.{leaves-same}
 use Rattle.cqs_rule_laws.proofs.Settled.{finals-on}
 use Rattle.cqs_rule_laws.proofs.CellPlaces.{behind-suspends, behind-resumes, suspends-inside, resumes-inside}
 use Rattle.cqs_rule_laws.proofs.Cells.{written_same, made_same, pushed-back, installed-drawn, since-on}
@@ -395,6 +396,7 @@ module _ {E S : Type 0} (object : Object E) (primitive : Primitive E S) (passes 
             (λ j high. drawn-state c p n found j refl) (λ j high h. h) (λ j e. absurd (cc)) (omega arith) r.finals;
         same_slots = λ y. refl;
         same_spares = refl;
+        leaves = leaves-same r.segments _;
       } in
       let done = steps object primitive passes limit client s r id me 16 x d es facts here one t in (
         grown v facts (r.log ++ es) r.handed,
@@ -518,6 +520,7 @@ module _ {E S : Type 0} (object : Object E) (primitive : Primitive E S) (passes 
             (λ j e. inr (let q : n ≡ j = ap number_at e in omega arith)) (omega arith) r.finals;
         same_slots = λ y. refl;
         same_spares = refl;
+        leaves = leaves-same r.segments _;
       } in
       let done = steps object primitive passes limit client s r id me 32 x d es facts here one t in (
         grown v facts (r.log ++ es) r.handed,

@@ -15,6 +15,7 @@ use Rattle.cqs_rule_laws.specs.declared.view.Facts.{Facts}
 use Rattle.cqs_rule_laws.specs.Segments.{KnowsSegments}
 use Rattle.cqs_rule_laws.proofs.Segments.{knows-nothing}
 use Rattle.cqs_rule_laws.proofs.Spares.{spares-kept, spares-joined}
+use Rattle.cqs_rule_laws.proofs.ToRetire.{leave-kept, leave-joined}
 use Rattle.cqs_rule_laws.proofs.Duties.{counted-kept, counted-joined}
 use Rattle.cqs_rule_laws.specs.Hidden.{hands_over}
 use Rattle.cqs_rule_laws.specs.Layout.{client_words, slots_for}
@@ -96,6 +97,8 @@ module _ {E S : Type 0} (object : Object E) (primitive : Primitive E S) (passes 
         counted = counted-joined (λ (x : View E S). x.facts.duties) r.segments r.settled s.views id other v u w spent
             here
             at-other (λ e. apart (sym e)) refl refl r.counted;
+        to_leave = leave-joined r.segments s.views id other v u w spent here at-other (λ e. apart (sym e)) refl
+            r.to_leave;
         spares = spares-joined (slots_for (cell_count passes limit primitive.values)) r.segments s.views id other v u w
             spent here at-other (λ e. apart (sym e)) refl refl r.spares;
         idle_words = r.idle_words;
@@ -142,6 +145,7 @@ module _ {E S : Type 0} (object : Object E) (primitive : Primitive E S) (passes 
                   (has_left n v.own v.others h));
               own = k.own;
               stands = stands-spares d to (record v.facts { has = got }) w.facts.spare_slots w.facts.duties
+                  w.facts.to_retire
                   (handed-to r.hidden from to gave got v.facts differ k.stands);
               resting = λ n h away. rests-on r.hidden d n
                   (λ f stands. handed-else r.hidden from to gave got n f
@@ -175,7 +179,7 @@ module _ {E S : Type 0} (object : Object E) (primitive : Primitive E S) (passes 
             j x e b);
         apart = apart-joined s.views id other v u w r.apart here at-other apart refl refl;
         spent = set_all (λ j x. x.weight ≡ 0 → IsSpent x) mid other spent
-            (λ z. record { numberless = λ n h. h; dutiless = refl })
+            (λ z. record { numberless = λ n h. h; dutiless = refl; retireless = refl })
             (λ j x b e. spent-set object primitive passes limit s.views id w (omega arith) r.spent j x e);
         unnamed = r.unnamed;
         unused = λ n above low. handed-else r.hidden from to gave got n (first_facts 0)
@@ -308,6 +312,7 @@ module _ {E S : Type 0} (object : Object E) (primitive : Primitive E S) (passes 
           finals = r.finals;
           counted = counted-kept (λ (x : View E S). x.facts.duties) r.segments r.settled s.views id v w here refl
               r.counted;
+          to_leave = leave-kept r.segments s.views id v w here refl r.to_leave;
           spares = spares-kept (slots_for (cell_count passes limit primitive.values)) r.segments r.segments s.views id v
               w here refl (λ y. refl) r.spares;
           idle_words = idle-stay s.words x r.idle_words;

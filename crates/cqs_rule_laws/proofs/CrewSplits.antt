@@ -15,6 +15,7 @@ use Rattle.cqs_rule_laws.specs.declared.view.View.{View}
 use Rattle.cqs_rule_laws.specs.declared.view.Facts.{Facts}
 use Rattle.cqs_rule_laws.specs.Segments.{KnowsSegments}
 use Rattle.cqs_rule_laws.proofs.Spares.{spares-kept, spares-more}
+use Rattle.cqs_rule_laws.proofs.ToRetire.{leave-kept, leave-more}
 use Rattle.cqs_rule_laws.proofs.Duties.{counted-kept, counted-more}
 use Rattle.cqs_rule_laws.specs.Hidden.{Hidden, hands_over}
 use Rattle.cqs_words.specs.Crew.{crew_word}
@@ -163,6 +164,7 @@ module _ {E S : Type 0} (object : Object E) (primitive : Primitive E S) (passes 
               finals = r.finals;
               counted = counted-kept (λ (x : View E S). x.facts.duties) r.segments r.settled s.views id v w
                   here refl r.counted;
+              to_leave = leave-kept r.segments s.views id v w here refl r.to_leave;
               spares = spares-kept (slots_for (cell_count passes limit primitive.values)) r.segments r.segments s.views
                   id v w here refl (λ y. refl) r.spares;
               idle_words = idle-stay s.words x r.idle_words;
@@ -409,6 +411,8 @@ module _ {E S : Type 0} (object : Object E) (primitive : Primitive E S) (passes 
         counted = counted-more (λ (x : View E S). x.facts.duties) r.segments r.settled views right refl
             (counted-kept (λ (x : View E S). x.facts.duties) r.segments r.settled s.views id v left here refl
             r.counted);
+        to_leave = leave-more r.segments views (right ∷ [])
+            (leave-kept r.segments s.views id v left here refl r.to_leave);
         spares = spares-more (slots_for (cell_count passes limit primitive.values)) r.segments views right refl
             (spares-kept (slots_for (cell_count passes limit primitive.values)) r.segments r.segments s.views id v left
             here refl (λ y. refl) r.spares);
@@ -470,7 +474,7 @@ module _ {E S : Type 0} (object : Object E) (primitive : Primitive E S) (passes 
               light = λ z. refl;
               parted = λ n h g. g;
               own = second.own;
-              stands = stands-spares r.hidden v.second_number v.second [] [] second.stands;
+              stands = stands-spares r.hidden v.second_number v.second [] [] [] second.stands;
               resting = second.resting;
               second = λ z. absurd (omega arith);
               crew = k.crew;

@@ -18,6 +18,7 @@ use Rattle.cqs_rule_laws.specs.Object.{Object, Primitive}
 use Rattle.cqs_rule_laws.specs.Ruled.{Ruled, Knows, IsKept, cell_count}
 use Rattle.cqs_rule_laws.specs.Segments.{KnowsSegments}
 use Rattle.cqs_rule_laws.proofs.Spares.{spares-kept}
+use Rattle.cqs_rule_laws.proofs.ToRetire.{leave-kept}
 use Rattle.cqs_rule_laws.proofs.Duties.{counted-kept}
 use Rattle.cqs_rule_laws.specs.Slots.{laid_in, taken_off, or_else, handed_in, MayOpen, Shelf}
 use Rattle.cqs_rule_laws.specs.Views.{all_own, weight, Tip}
@@ -199,6 +200,7 @@ module _ {E S : Type 0} (object : Object E) (primitive : Primitive E S) (passes 
       settled = r.settled;
       finals = r.finals;
       counted = counted-kept (λ (x : View E S). x.facts.duties) r.segments r.settled s.views id v w here refl r.counted;
+      to_leave = leave-kept r.segments s.views id v w here refl r.to_leave;
       spares = spares-kept (slots_for (cell_count passes limit primitive.values)) r.segments r.segments s.views id v w
           here refl (λ y. refl) r.spares;
       idle_words = record { none = r.idle_words.none };

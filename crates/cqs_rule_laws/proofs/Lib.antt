@@ -8,6 +8,7 @@ pub mod Shelves
 pub mod Drawing
 pub mod Staying
 pub mod Duties
+pub mod ToRetire
 pub mod Settled
 pub mod Advance
 pub mod Others
@@ -41,6 +42,7 @@ pub mod Rules
 pub mod Courses
 pub mod Causes
 pub mod SegmentSteps
+pub mod Retiring
 pub mod Finals
 pub mod Near
 pub mod StandStill

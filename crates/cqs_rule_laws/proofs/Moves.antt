@@ -23,6 +23,7 @@ use Rattle.cqs_rule_laws.specs.Ruled.{Ruled, Stands, IsSince, cell_count}
 use Rattle.cqs_rule_laws.specs.Saw.{Saw, IsLive, WasFound}
 use Rattle.cqs_rule_laws.specs.Views.{grown}
 use Rattle.cqs_rule_laws.specs.Manner.{IsSmart}
+use Rattle.cqs_rule_laws.proofs.ToRetire.{leaves-same}
 use Rattle.cqs_rule_laws.proofs.Settled.{finals-on}
 use Rattle.cqs_rule_laws.proofs.CellPlaces.{behind-client, client-inside}
 use Rattle.cqs_rule_laws.proofs.Advance.{Turned}
@@ -180,6 +181,7 @@ module _ {C E S : Type 0} (object : Object E) (primitive : C → Primitive E S) 
             (λ j high. refl) (λ j high h. h) (λ j e. inl (law.ticket n j e)) (omega arith) r.finals;
         same_slots = λ y. refl;
         same_spares = refl;
+        leaves = leaves-same r.segments _;
       } in
       let done = steps object (primitive x) passes limit client s r id me word (f n) d es after here one t in
       let w : View E S = grown v after (r.log ++ es) r.handed in (

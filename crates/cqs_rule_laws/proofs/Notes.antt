@@ -12,6 +12,7 @@ use Rattle.cqs_rule_laws.specs.declared.view.Facts.{Facts}
 use Rattle.cqs_rule_laws.specs.Segments.{KnowsSegments}
 use Rattle.cqs_rule_laws.proofs.Segments.{knows-nothing}
 use Rattle.cqs_rule_laws.proofs.Spares.{spares-set, spares-kept, spares-more}
+use Rattle.cqs_rule_laws.proofs.ToRetire.{leave-kept, leave-more}
 use Rattle.cqs_rule_laws.proofs.Duties.{counted-kept, counted-more}
 use Rattle.cqs_rule_laws.specs.Layout.{slots_for}
 use Rattle.cqs_rule_laws.specs.Lists.{Has, IsPrefix}
@@ -78,6 +79,7 @@ module _ {E S : Type 0} (object : Object E) (primitive : Primitive E S) (passes 
         settled = r.settled;
         finals = r.finals;
         counted = counted-more (λ (x : View E S). x.facts.duties) r.segments r.settled s.views note refl r.counted;
+        to_leave = leave-more r.segments s.views (note ∷ []) r.to_leave;
         spares = spares-more (slots_for (cell_count passes limit primitive.values)) r.segments s.views note refl
             r.spares;
         idle_words = r.idle_words;
@@ -114,7 +116,7 @@ module _ {E S : Type 0} (object : Object E) (primitive : Primitive E S) (passes 
         };
         shelf = shelf-end primitive.opens r.handed r.live s.homes s.views note refl refl r.shelf;
         spent = λ j u e weightless. old-or j u e (λ q. r.spent j u q weightless)
-            (λ is. subst IsSpent is (record { numberless = λ n h. h; dutiless = refl }));
+            (λ is. subst IsSpent is (record { numberless = λ n h. h; dutiless = refl; retireless = refl }));
       }
 
   -- a live view has taken in what a note says
@@ -139,6 +141,7 @@ module _ {E S : Type 0} (object : Object E) (primitive : Primitive E S) (passes 
     settled = r.settled;
     finals = r.finals;
     counted = counted-kept (λ (x : View E S). x.facts.duties) r.segments r.settled s.views id v w here refl r.counted;
+    to_leave = leave-kept r.segments s.views id v w here refl r.to_leave;
     spares = spares-kept (slots_for (cell_count passes limit primitive.values)) r.segments r.segments s.views id v w
         here refl (λ y. refl) r.spares;
     idle_words = r.idle_words;
@@ -242,6 +245,8 @@ module _ {E S : Type 0} (object : Object E) (primitive : Primitive E S) (passes 
     finals = r.finals;
     counted = counted-kept (λ (x : View E S). x.facts.duties) r.segments r.settled s.views id u spent here
         (sym (r.spent id u here weightless).dutiless) r.counted;
+    to_leave = leave-kept r.segments s.views id u spent here (sym (r.spent id u here weightless).retireless)
+        r.to_leave;
     spares = spares-set (slots_for (cell_count passes limit primitive.values)) r.segments r.segments s.views id u spent
         here tt tt (λ y h. absurd h) (λ y i a d is none. refl) r.spares;
     idle_words = r.idle_words;
@@ -279,7 +284,7 @@ module _ {E S : Type 0} (object : Object E) (primitive : Primitive E S) (passes 
       last = λ k bare. r.shelf.last k (λ j x at live. bare j x (on j x at live) live);
     };
     spent = set_all (λ j x. x.weight ≡ 0 → IsSpent x) s.views id spent
-        (λ z. record { numberless = λ n h. h; dutiless = refl })
+        (λ z. record { numberless = λ n h. h; dutiless = refl; retireless = refl })
         (λ j x apart at. r.spent j x at);
   }
     where

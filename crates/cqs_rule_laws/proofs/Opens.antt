@@ -158,6 +158,7 @@ module _ {E S : Type 0} (object : Object E) (primitive : Primitive E S) (passes 
     settled = λ k. false;
     finals = λ k is. absurd (cc);
     counted = record { counts = λ s. none-in s };
+    to_leave = record { leave = λ s all low. absurd (omega arith) };
     spares = record {
       are = λ j v e. subst (λ (x : View E S). AreSpare (slots_for cells_of) (first_segments (slots_for cells_of))
           x.facts.spare_slots) (only-one first v j e).1 tt;

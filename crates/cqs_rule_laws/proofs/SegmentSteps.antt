@@ -1,5 +1,5 @@
 -- The steps on the words of segments: what each makes of the segments keeps the rule.
-use Rattle.std.proofs.Common.{◌≡◌, ◌≢◌, ◌⊎◌, ℕ, ◌+◌, ◌-◌, ◌*◌, ◌%◌, ◌^◌, ◌<◌, ◌≤◌, List, [], ◌∷◌, ◌++◌, length, length-append, set, sym, refl, ap, ◌∙◌, subst, ⊎_elim, inl, inr, arith, eqb, eq-eqb, ne_eqb, Option}
+use Rattle.std.proofs.Common.{◌≡◌, ◌≢◌, ◌⊎◌, ℕ, ◌+◌, ◌-◌, ◌*◌, ◌%◌, ◌^◌, ◌<◌, ◌≤◌, true, List, [], ◌∷◌, ◌++◌, length, length-append, set, sym, refl, ap, ◌∙◌, subst, ⊎_elim, inl, inr, arith, eqb, eq-eqb, ne_eqb, Option}
 use Rattle.std.specs.Prelude.{slice_index, slice_set}
 use prog.Atomic.{either}
 use mathlib.Core.Option.{some}
@@ -16,14 +16,13 @@ use Rattle.cqs_slots.specs.Slots.{Segments, free, spare, fresh, live, IsHome, Is
 use Rattle.cqs_slots.specs.Shown.{Shows, AreSound, AreCells, Becomes}
 use Rattle.cqs_slots.specs.Told.{Knows, all_seen, TailFound, HeadFound}
 use Rattle.cqs_core.proofs.Places.{get-push_at}
-use Rattle.cqs_slots.proofs.Lists.{changed_here, changed_at, changed_else, home-prefix, has_prefix, one-home}
+use Rattle.cqs_slots.proofs.Lists.{changed_here, changed_at, changed_else, home-prefix, one-home}
 use Rattle.cqs_slots.proofs.Loads as loads
 use Rattle.cqs_slots.specs.Steps.{with_slot, with_tail, with_counted}
 use Rattle.cqs_slots.proofs.Claims.{claimed, claimed-is, given-back}
 use Rattle.cqs_slots.proofs.Resets.{spare-low, begun, cell-reset, count-reset}
-use Rattle.cqs_slots.proofs.Marks.{is-young, lit, retired}
-use Rattle.cqs_slots.proofs.Counts.{few-counted, most-counted, count-found, counted-shows, counted-sound, counted-later, fuller-has}
-use Rattle.cqs_slots.proofs.Turns.{is-live}
+use Rattle.cqs_slots.proofs.Marks.{is-young, lit}
+use Rattle.cqs_slots.proofs.Counts.{few-counted, count-found, counted-shows, counted-sound, counted-later, fuller-has}
 use Rattle.cqs_slots.proofs.Extends.{extended, tail-at}
 use Rattle.cqs_rule_laws.specs.declared.view.Spare.{Spare}
 use Rattle.cqs_rule_laws.specs.declared.view.View.{View}
@@ -33,11 +32,12 @@ use Rattle.cqs_rule_laws.specs.Lists.{Has, IsDistinct, IsPrefix}
 use Rattle.cqs_rule_laws.specs.Object.{Object, Primitive}
 use Rattle.cqs_rule_laws.specs.Ruled.{Ruled, Knows as KnowsView, Stands, cell_count, word_at}
 use Rattle.cqs_rule_laws.specs.Segments.{KnowsSegments}
-use Rattle.cqs_rule_laws.specs.SegmentSteps.{facts_left, LeftBy, CellCounted, CountLoaded, Retired, claimed_slot, reset_slot, Went, TailLoaded, HeadLoaded, Claimed, Began, Reset, Lit, Extended}
+use Rattle.cqs_rule_laws.specs.SegmentSteps.{facts_left, retiring, LeftBy, CellCounted, claimed_slot, reset_slot, Went, TailLoaded, HeadLoaded, Claimed, Began, Reset, Lit, Extended}
 use Rattle.cqs_rule_laws.specs.Spares.{slots_of, IsSpare, AreSpare, SparesHold}
 use Rattle.cqs_rule_laws.specs.Views.{weight, Tip}
 use Rattle.cqs_rule_laws.proofs.Advance.{still-apart, spent-set, still-kept}
 use Rattle.cqs_rule_laws.specs.Settling.{times, duties_in}
+use Rattle.cqs_rule_laws.proofs.ToRetire.{Leaves, leaves-same, leaves-turned, leave-set, too, too-has}
 use Rattle.cqs_rule_laws.proofs.Duties.{counted-set, times-append, times-one, times-none}
 use Rattle.cqs_rule_laws.proofs.Lists.{set_there, one_there, set_all, total_set, one_of, has_append, has_left, has_right}
 use Rattle.cqs_rule_laws.proofs.Shelves.{keeps-all, shelf-set}
@@ -45,11 +45,19 @@ use Rattle.cqs_rule_laws.proofs.Spares.{slots-append, are-append, are-else, are-
 use Rattle.cqs_rule_laws.proofs.Words.{crew-else, counters-else, idle-else, client-above}
 
 -- the view of a pass that made such a step: it knows all segments that are made
-abbrev pub left : {E S : Type 0} → View E S → Segments → List Spare → List (ℕ × ℕ) → List ℕ → View E S
-left v u spares heads duties = record v { facts = facts_left spares heads duties v.facts; segments = all_seen u }
+abbrev pub left : {E S : Type 0} → View E S → Segments → List Spare → List (ℕ × ℕ) → List ℕ → List ℕ → View E S
+left v u spares heads duties retires = record v {
+  facts = record (facts_left spares heads duties v.facts) { to_retire = retires };
+  segments = all_seen u;
+}
 
+-- it has the same cells to count
+abbrev pub retired : {E S : Type 0} → View E S → Segments → List Spare → List (ℕ × ℕ) → List ℕ → View E S
+retired v u spares heads retires = left v u spares heads v.facts.duties retires
+
+-- and the same segments to retire
 abbrev pub went : {E S : Type 0} → View E S → Segments → List Spare → List (ℕ × ℕ) → View E S
-went v u spares heads = left v u spares heads v.facts.duties
+went v u spares heads = retired v u spares heads v.facts.to_retire
 
 module _ {E S : Type 0} (object : Object E) (primitive : Primitive E S) (passes limit : ℕ) where
   abbrev pub R : State (Option S) (View E S) → Type 0
@@ -60,21 +68,22 @@ module _ {E S : Type 0} (object : Object E) (primitive : Primitive E S) (passes 
 
   -- what such a step has to show: the word i becomes z, and the segments u
   pub record Resegments (s : State (Option S) (View E S)) (r : R s) (id i z : ℕ) (v : View E S) (u : Segments)
-      (spares : List Spare) (heads : List (ℕ × ℕ)) (duties : List ℕ) : Type 0 where
+      (spares : List Spare) (heads : List (ℕ × ℕ)) (duties retires : List ℕ) : Type 0 where
     pub behind : 112 ≤ i
     pub shows : Shows slots u (word_at r.hidden) (slice_set s.words i z)
     pub sound : AreSound slots u
     pub later : IsLater r.segments u
     pub made : AreCells (word_at r.hidden) u.tail
     pub counts : (q : ℕ) → times q v.facts.duties + r.segments.counted q ≡ times q duties + u.counted q
-    pub hold : SparesHold slots u (set s.views id (left v u spares heads duties))
+    pub leaves : Leaves r.segments u v.facts.to_retire retires
+    pub hold : SparesHold slots u (set s.views id (left v u spares heads duties retires))
 
   -- what it tells
   pub went-so : (s : State (Option S) (View E S)) (r : R s) (id : ℕ) (v : View E S) (u : Segments)
       (spares : List Spare)
-      (heads : List (ℕ × ℕ)) (duties : List ℕ) → get_elem? s.views id ≡ some v → IsLater r.segments u
-      → LeftBy heads spares duties v (left v u spares heads duties)
-  went-so s r id v u spares heads duties here later = record {
+      (heads : List (ℕ × ℕ)) (duties retires : List ℕ) → get_elem? s.views id ≡ some v → IsLater r.segments u
+      → LeftBy heads spares duties (retiring retires v) (left v u spares heads duties retires)
+  went-so s r id v u spares heads duties retires here later = record {
     is = refl;
     segments = loads.sees-all u v.segments
         (loads.knows-later r.segments u v.segments later (r.each_segment id v here).seen);
@@ -82,14 +91,14 @@ module _ {E S : Type 0} (object : Object E) (primitive : Primitive E S) (passes 
 
   -- it keeps the rule
   pub resegment : (s : State (Option S) (View E S)) (r : R s) (id i z : ℕ) (cs : List (ℕ × Option S)) (v : View E S)
-      (u : Segments) (spares : List Spare) (heads : List (ℕ × ℕ)) (duties : List ℕ)
-      → get_elem? s.views id ≡ some v → v.weight ≡ 1 → Resegments s r id i z v u spares heads duties
-      → R (stepped s i z id cs (left v u spares heads duties) keeps)
-  resegment s r id i z cs v u spares heads duties here one t =
+      (u : Segments) (spares : List Spare) (heads : List (ℕ × ℕ)) (duties retires : List ℕ)
+      → get_elem? s.views id ≡ some v → v.weight ≡ 1 → Resegments s r id i z v u spares heads duties retires
+      → R (stepped s i z id cs (left v u spares heads duties retires) keeps)
+  resegment s r id i z cs v u spares heads duties retires here one t =
       let behind = t.behind in
       let k = r.each_view id v here (omega arith) in
       let at = k.stands in
-      let stands : Stands r.hidden v.number (facts_left spares heads duties v.facts) = record {
+      let stands : Stands r.hidden v.number w.facts = record {
         doing = at.doing;
         has = at.has;
         may_draw = at.may_draw;
@@ -125,6 +134,7 @@ module _ {E S : Type 0} (object : Object E) (primitive : Primitive E S) (passes 
         finals = r.finals;
         counted = counted-set (λ (x : View E S). x.facts.duties) r.segments u r.settled r.settled s.views id v w here
             (λ q. let e = t.counts q in omega arith) r.counted;
+        to_leave = leave-set r.segments u s.views id v w here t.later.outs t.leaves r.to_leave;
         spares = t.hold;
         idle_words = idle-else s.words i z (λ j is e. let before = is.before in omega arith) r.idle_words;
         room = r.room;
@@ -181,7 +191,7 @@ module _ {E S : Type 0} (object : Object E) (primitive : Primitive E S) (passes 
       }
     where
       w : View E S
-      w = left v u spares heads duties
+      w = left v u spares heads duties retires
 
       P : ℕ → View E S → Type 0
       P j x = 0 < x.weight → KnowsView object r.hidden r.log r.handed r.made r.live passes limit
@@ -208,53 +218,67 @@ module _ {E S : Type 0} (object : Object E) (primitive : Primitive E S) (passes 
 
   -- the rule after such a step at the slot x, which made it what it is, and what it tells
   pub segment-turn : (s : State (Option S) (View E S)) (r : R s) (id i z x : ℕ) (me : Me (Option S) (View E S))
-      (u : Segments) (spares : List Spare) (heads : List (ℕ × ℕ))
+      (u : Segments) (spares : List Spare) (heads : List (ℕ × ℕ)) (retires : List ℕ)
       → get_elem? s.views id ≡ some me.0 → me.0.weight ≡ 1 → 112 ≤ i
       → Becomes slots x r.segments u (word_at r.hidden) (slice_set s.words i z)
       → AreCells (word_at r.hidden) u.tail → ((q : ℕ) → u.counted q ≡ r.segments.counted q)
-      → AreSpare slots u spares → IsDistinct (slots_of spares)
+      → Leaves r.segments u me.0.facts.to_retire retires → AreSpare slots u spares → IsDistinct (slots_of spares)
       → ((y : ℕ) → Has y (slots_of spares) → Has y (slots_of me.0.facts.spare_slots)
       ⊎ ((i a d : ℕ) → r.segments.slots y ≡ spare i a d → ⊥))
       → ((j a d : ℕ) → r.segments.slots x ≡ spare j a d → Has x (slots_of me.0.facts.spare_slots))
-      → R (stepped s i z id me.1 (went me.0 u spares heads) keeps)
-      × Went spares heads me.0 (went me.0 u spares heads)
-  segment-turn s r id i z x me u spares heads here one behind b made counts mine distinct claims own = (
-    resegment s r id i z me.1 me.0 u spares heads me.0.facts.duties here one (record {
+      → R (stepped s i z id me.1 (retired me.0 u spares heads retires) keeps)
+      × Went spares heads (retiring retires me.0) (retired me.0 u spares heads retires)
+  segment-turn s r id i z x me u spares heads retires here one behind b made counts leaves mine distinct claims own = (
+    resegment s r id i z me.1 me.0 u spares heads me.0.facts.duties retires here one (record {
       behind = behind;
       shows = b.shows;
       sound = b.sound;
       later = b.later;
       made = made;
       counts = λ q. let e = counts q in omega arith;
-      hold = spares-set slots r.segments u s.views id me.0 (went me.0 u spares heads) here mine distinct claims
+      leaves = leaves;
+      hold = spares-set slots r.segments u s.views id me.0 (retired me.0 u spares heads retires) here mine distinct
+          claims
           (λ y j a d is none. b.others y (λ (e : y ≡ x). none (subst (λ m. Has m (slots_of me.0.facts.spare_slots))
           (sym e) (own j a d (ap r.segments.slots (sym e) ∙ is))))) r.spares;
     }),
-    went-so s r id me.0 u spares heads me.0.facts.duties here b.later,
+    went-so s r id me.0 u spares heads me.0.facts.duties retires here b.later,
   )
 
-  -- a step that leaves all words
-  pub segment-look : (s : State (Option S) (View E S)) (r : R s) (id i : ℕ) (me : Me (Option S) (View E S))
-      (heads : List (ℕ × ℕ)) → get_elem? s.views id ≡ some me.0 → me.0.weight ≡ 1 → 112 ≤ i
-      → R (stepped s i (slice_index s.words i) id me.1 (went me.0 r.segments me.0.facts.spare_slots heads) keeps)
-      × Went me.0.facts.spare_slots heads me.0 (went me.0 r.segments me.0.facts.spare_slots heads)
-  segment-look s r id i me heads here one behind =
+  -- A step that leaves all words. The pass may find that it isn't to retire some segment any more.
+  pub retire-look : (s : State (Option S) (View E S)) (r : R s) (id i : ℕ) (me : Me (Option S) (View E S))
+      (heads : List (ℕ × ℕ)) (retires : List ℕ) → get_elem? s.views id ≡ some me.0 → me.0.weight ≡ 1 → 112 ≤ i
+      → Leaves r.segments r.segments me.0.facts.to_retire retires
+      → R (stepped s i (slice_index s.words i) id me.1
+      (retired me.0 r.segments me.0.facts.spare_slots heads retires) keeps)
+      × Went me.0.facts.spare_slots heads (retiring retires me.0)
+      (retired me.0 r.segments me.0.facts.spare_slots heads retires)
+  retire-look s r id i me heads retires here one behind leaves =
       let same : slice_set s.words i (slice_index s.words i) ≡ s.words = set-get_or s.words i 0 in (
         resegment s r id i (slice_index s.words i) me.1 me.0 r.segments me.0.facts.spare_slots heads me.0.facts.duties
-            here one (record {
+            retires here one (record {
               behind = behind;
               shows = subst (Shows slots r.segments (word_at r.hidden)) (sym same) r.cells.shows;
               sound = r.cells.sound;
               later = loads.later-same r.segments;
               made = r.cells.made;
               counts = λ q. refl;
+              leaves = leaves;
               hold = spares-set slots r.segments r.segments s.views id me.0
-                  (went me.0 r.segments me.0.facts.spare_slots heads) here (r.spares.are id me.0 here)
+                  (retired me.0 r.segments me.0.facts.spare_slots heads retires) here (r.spares.are id me.0 here)
                   (r.spares.once id me.0 here) (λ y h. inl h) (λ y j a d is none. refl) r.spares;
             }),
-        went-so s r id me.0 r.segments me.0.facts.spare_slots heads me.0.facts.duties here
+        went-so s r id me.0 r.segments me.0.facts.spare_slots heads me.0.facts.duties retires here
             (loads.later-same r.segments),
       )
+
+  pub segment-look : (s : State (Option S) (View E S)) (r : R s) (id i : ℕ) (me : Me (Option S) (View E S))
+      (heads : List (ℕ × ℕ)) → get_elem? s.views id ≡ some me.0 → me.0.weight ≡ 1 → 112 ≤ i
+      → R (stepped s i (slice_index s.words i) id me.1 (went me.0 r.segments me.0.facts.spare_slots heads) keeps)
+      × Went me.0.facts.spare_slots heads me.0 (went me.0 r.segments me.0.facts.spare_slots heads)
+  segment-look s r id i me heads here one behind =
+      retire-look s r id i me heads me.0.facts.to_retire here one behind
+      (leaves-same r.segments me.0.facts.to_retire)
 
   -- what an exchange comes to
   abbrev pub Comes : (s : State (Option S) (View E S)) (id : ℕ) (me : Me (Option S) (View E S)) (i z : ℕ)
@@ -336,8 +360,9 @@ module _ {E S : Type 0} (object : Object E) (primitive : Primitive E S) (passes 
       let fresh-slot : (j a d : ℕ) → t.slots x ≡ spare j a d → ⊥ = λ j a d q. not-spare i j a d (sym was ∙ q) in
       let absent : Has x (slots_of l) → ⊥ = λ h.
       let q = is-spare slots t l x h (r.spares.are id v here) in fresh-slot q.0 q.1 q.2 q.3 in
-      let new = segment-turn s r id (head_place x) (head_word i 1) x me u (l ++ claimed_slot x ∷ []) ((x, n) ∷ []) here
-      one (omega arith) b r.cells.made (λ q. refl)
+      let new = segment-turn s r id (head_place x) (head_word i 1) x me u (l ++ claimed_slot x ∷ []) ((x, n) ∷ [])
+      v.facts.to_retire here one (omega arith) b r.cells.made (λ q. refl)
+      (leaves-turned t u v.facts.to_retire refl refl)
       (are-append slots u l (claimed_slot x ∷ [])
       (are-else slots t u l (λ y h. b.others y (λ e'. absent (subst (λ m. Has m (slots_of l)) e' h)))
       (r.spares.are id v here)) (
@@ -390,20 +415,22 @@ module _ {E S : Type 0} (object : Object E) (primitive : Primitive E S) (passes 
       not-spare k j a d q = absurd (cc)
 
   -- a step at a slot that isn't spare, and isn't then
-  keep-turn : (s : State (Option S) (View E S)) (r : R s) (id i z x : ℕ) (me : Me (Option S) (View E S))
-      (u : Segments) (heads : List (ℕ × ℕ))
+  pub keep-turn : (s : State (Option S) (View E S)) (r : R s) (id i z x : ℕ) (me : Me (Option S) (View E S))
+      (u : Segments) (heads : List (ℕ × ℕ)) (retires : List ℕ)
       → get_elem? s.views id ≡ some me.0 → me.0.weight ≡ 1 → 112 ≤ i
       → Becomes slots x r.segments u (word_at r.hidden) (slice_set s.words i z)
       → AreCells (word_at r.hidden) u.tail → ((q : ℕ) → u.counted q ≡ r.segments.counted q)
+      → Leaves r.segments u me.0.facts.to_retire retires
       → ((j a d : ℕ) → r.segments.slots x ≡ spare j a d → ⊥)
-      → R (stepped s i z id me.1 (went me.0 u me.0.facts.spare_slots heads) keeps)
-      × Went me.0.facts.spare_slots heads me.0 (went me.0 u me.0.facts.spare_slots heads)
-  keep-turn s r id i z x me u heads here one behind b made counts no-spare =
+      → R (stepped s i z id me.1 (retired me.0 u me.0.facts.spare_slots heads retires) keeps)
+      × Went me.0.facts.spare_slots heads (retiring retires me.0)
+      (retired me.0 u me.0.facts.spare_slots heads retires)
+  keep-turn s r id i z x me u heads retires here one behind b made counts leaves no-spare =
       let l = me.0.facts.spare_slots in
       let old = r.spares.are id me.0 here in
       let absent : Has x (slots_of l) → ⊥ = λ h.
       let q = is-spare slots r.segments l x h old in no-spare q.0 q.1 q.2 q.3 in
-      segment-turn s r id i z x me u l heads here one behind b made counts
+      segment-turn s r id i z x me u l heads retires here one behind b made counts leaves
       (are-else slots r.segments u l
       (λ y h. b.others y (λ (e : y ≡ x). absent (subst (λ m. Has m (slots_of l)) e h))) old)
       (r.spares.once id me.0 here) (λ y h. inl h) (λ j a d is. absurd (no-spare j a d is))
@@ -427,15 +454,17 @@ module _ {E S : Type 0} (object : Object E) (primitive : Primitive E S) (passes 
       → me.0.facts.spare_slots ≡ before ++ reset_slot x a d ∷ []
       → Becomes slots x r.segments u (word_at r.hidden) (slice_set s.words i z)
       → AreCells (word_at r.hidden) u.tail → ((q : ℕ) → u.counted q ≡ r.segments.counted q)
+      → Leaves r.segments u me.0.facts.to_retire me.0.facts.to_retire
       → IsSpare slots u (reset_slot x e f)
       → R (stepped s i z id me.1 (went me.0 u (before ++ reset_slot x e f ∷ []) heads) keeps)
       × Went (before ++ reset_slot x e f ∷ []) heads me.0 (went me.0 u (before ++ reset_slot x e f ∷ []) heads)
-  spare-turn s r id i z x a d e f me u before heads here one behind is b made counts mine =
+  spare-turn s r id i z x a d e f me u before heads here one behind is b made counts leaves mine =
       let l = last-spare s r id me.0 before (reset_slot x a d) here is in
       let same : slots_of (before ++ reset_slot x e f ∷ []) ≡ slots_of me.0.facts.spare_slots =
       slots-append before (reset_slot x e f ∷ [])
       ∙ sym (ap slots_of is ∙ slots-append before (reset_slot x a d ∷ [])) in
-      segment-turn s r id i z x me u (before ++ reset_slot x e f ∷ []) heads here one behind b made counts
+      segment-turn s r id i z x me u (before ++ reset_slot x e f ∷ []) heads me.0.facts.to_retire here one behind b made
+      counts leaves
       (are-append slots u before (reset_slot x e f ∷ [])
       (are-else slots r.segments u before
       (λ y h. b.others y (λ (q : y ≡ x). l.2 (subst (λ m. Has m (slots_of before)) q h))) l.0) (mine, tt))
@@ -446,18 +475,19 @@ module _ {E S : Type 0} (object : Object E) (primitive : Primitive E S) (passes 
 
   -- and one that is none then
   spent-turn : (s : State (Option S) (View E S)) (r : R s) (id i z x a d : ℕ) (me : Me (Option S) (View E S))
-      (u : Segments) (before : List Spare) (heads : List (ℕ × ℕ))
+      (u : Segments) (before : List Spare) (heads : List (ℕ × ℕ)) (retires : List ℕ)
       → get_elem? s.views id ≡ some me.0 → me.0.weight ≡ 1 → 112 ≤ i
       → me.0.facts.spare_slots ≡ before ++ reset_slot x a d ∷ []
       → Becomes slots x r.segments u (word_at r.hidden) (slice_set s.words i z)
       → AreCells (word_at r.hidden) u.tail → ((q : ℕ) → u.counted q ≡ r.segments.counted q)
-      → R (stepped s i z id me.1 (went me.0 u before heads) keeps)
-      × Went before heads me.0 (went me.0 u before heads)
-  spent-turn s r id i z x a d me u before heads here one behind is b made counts =
+      → Leaves r.segments u me.0.facts.to_retire retires
+      → R (stepped s i z id me.1 (retired me.0 u before heads retires) keeps)
+      × Went before heads (retiring retires me.0) (retired me.0 u before heads retires)
+  spent-turn s r id i z x a d me u before heads retires here one behind is b made counts leaves =
       let l = last-spare s r id me.0 before (reset_slot x a d) here is in
       let all : slots_of me.0.facts.spare_slots ≡ slots_of before ++ x ∷ [] =
       ap slots_of is ∙ slots-append before (reset_slot x a d ∷ []) in
-      segment-turn s r id i z x me u before heads here one behind b made counts
+      segment-turn s r id i z x me u before heads retires here one behind b made counts leaves
       (are-else slots r.segments u before
       (λ y h. b.others y (λ (q : y ≡ x). l.2 (subst (λ m. Has m (slots_of before)) q h))) l.0)
       (distinct-left (slots_of before) (x ∷ []) (subst IsDistinct all (r.spares.once id me.0 here)))
@@ -479,7 +509,7 @@ module _ {E S : Type 0} (object : Object E) (primitive : Primitive E S) (passes 
       let b = subst (Becomes slots x t u (word_at r.hidden)) (sym same)
       (begun slots t (word_at r.hidden) s.words r.cells.shows r.cells.sound x sp.low sp.id a d t.tail sp.is) in
       let new = spare-turn s r id tail_place n x a d t.tail 1 me u before [] here one (omega arith) is b r.cells.made
-      (λ q. refl) (record {
+      (λ q. refl) (leaves-turned t u v.facts.to_retire refl refl) (record {
         low = sp.low;
         id = sp.id;
         is = changed_here t.slots x (spare sp.id t.tail 1);
@@ -527,7 +557,7 @@ module _ {E S : Type 0} (object : Object E) (primitive : Primitive E S) (passes 
       let new = spare-turn s r id (slot_cell x j) (empty_word (32 * (a + 1) + j)) x a (j + 1) a (j + 2) me u before []
       here one (omega arith) is
       (cell-reset slots t (word_at r.hidden) s.words r.cells.shows r.cells.sound x sp.low sp.id a j sp.is low few)
-      r.cells.made (λ q. refl) (record {
+      r.cells.made (λ q. refl) (leaves-turned t u me.0.facts.to_retire refl refl) (record {
         low = sp.low;
         id = sp.id;
         is = changed_here t.slots x (spare sp.id a (j + 2));
@@ -555,7 +585,7 @@ module _ {E S : Type 0} (object : Object E) (primitive : Primitive E S) (passes 
       let u = with_slot t x (spare sp.id a 34) t.outs t.lit in
       let new = spare-turn s r id (count_place x) 0 x a 33 a 34 me u before [] here one (omega arith) is
       (count-reset slots t (word_at r.hidden) s.words r.cells.shows r.cells.sound x sp.low sp.id a sp.is)
-      r.cells.made (λ q. refl) (record {
+      r.cells.made (λ q. refl) (leaves-turned t u me.0.facts.to_retire refl refl) (record {
         low = sp.low;
         id = sp.id;
         is = changed_here t.slots x (spare sp.id a 34);
@@ -573,8 +603,10 @@ module _ {E S : Type 0} (object : Object E) (primitive : Primitive E S) (passes 
       (λ e.
       let was = is-young slots t (word_at r.hidden) s.words r.cells.shows r.cells.sound x q at i lower e in
       let u = with_slot t x (live q) t.outs (q + 1) in
-      let new = keep-turn s r id (head_place x) (head_word q 2) x me u [] here one (omega arith)
+      let new = keep-turn s r id (head_place x) (head_word q 2) x me u [] me.0.facts.to_retire here one
+      (omega arith)
       (lit slots t (word_at r.hidden) s.words r.cells.shows r.cells.sound x q at i was) r.cells.made (λ _. refl)
+      (leaves-turned t u me.0.facts.to_retire refl refl)
       (λ j a d is. no-spare j a d (sym was ∙ is)) in
       (went me.0 u me.0.facts.spare_slots [], new.0, record { lit = omega arith; went = new.1 }))
       (λ a.
@@ -636,13 +668,17 @@ module _ {E S : Type 0} (object : Object E) (primitive : Primitive E S) (passes 
       (extended slots t (word_at r.hidden) s.words r.cells.shows r.cells.sound r.cells.made x sp.id sp.low low
       (sp.is ∙ ap (λ z. spare sp.id z 34) tail) up (omega arith)) in
       let long = r.cells.sound.made in
-      let new = spent-turn s r id tail_place (segment_word (a + 1) x) x a 34 me u before [] here one (omega arith) is b
+      let new = spent-turn s r id tail_place (segment_word (a + 1) x) x a 34 me u before []
+      (me.0.facts.to_retire ++ a ∷ []) here one (omega arith) is b
       (record {
         numbered = r.cells.made.numbered;
         unmade = λ k high. r.cells.made.unmade k (omega arith);
       })
-      (λ q. refl) in (
-        went me.0 u before [],
+      (λ q. refl)
+      (λ q all below. dite (ℕ_discrete q a)
+      (λ (same : q ≡ a). inl (inr (has_right q me.0.facts.to_retire (a ∷ []) (inl same))))
+      (λ (other : q ≢ a). inr (all, omega arith, λ h. inr (has_left q me.0.facts.to_retire (a ∷ []) h)))) in (
+        retired me.0 u before [] (me.0.facts.to_retire ++ a ∷ []),
         new.0,
         record {
           home = λ _. get-push_at t.homes x (a + 1) (omega arith);
@@ -695,37 +731,16 @@ module _ {E S : Type 0} (object : Object E) (primitive : Primitive E S) (passes 
       let claimed-head : n ≡ head_word sp.id 1 = (r.cells.shows.each x sp.low).head ∙ ap slot_head sp.is in
       let exact : (n + (2 ^ 64 - 1)) % 2 ^ 64 ≡ head_word sp.id 0 = omega arith in
       let u = with_slot t x (free sp.id) t.outs t.lit in
-      let new = spent-turn s r id (head_place x) (head_word sp.id 0) x a d me u before [] here one (omega arith) is
+      let new = spent-turn s r id (head_place x) (head_word sp.id 0) x a d me u before []
+      me.0.facts.to_retire here one (omega arith) is
       (given-back slots t (word_at r.hidden) s.words r.cells.shows r.cells.sound x sp.low sp.id a d sp.is)
-      r.cells.made (λ q. refl) in
+      r.cells.made (λ q. refl) (leaves-turned t u me.0.facts.to_retire refl refl) in
       let w = went me.0 u before [] in (
         w,
         keeps,
         tt,
         subst (λ z. R (stepped s (head_place x) z id me.1 w keeps)) (sym exact) new.0,
         (new.1, refl),
-      )
-
-  -- a load of a number of settled cells
-  pub loads-count : (many id : ℕ) (me : Me (Option S) (View E S)) (x : ℕ) → me.0.weight ≡ 1 → x < slots_for me.0.cells
-      → Allows R many id me (count_place x) (λ n. n) (λ n me'. CountLoaded x me.0 n me'.0 × (me'.1 ≡ me.1))
-  loads-count many id me x one below s r homes here small =
-      let t = segment-look s r id (count_place x) me [] here one (omega arith) in
-      let cells = (r.each_view id me.0 here (omega arith)).cells_are in (
-        went me.0 r.segments me.0.facts.spare_slots [],
-        keeps,
-        tt,
-        t.0,
-        (
-          record {
-            found = loads.count-told slots r.segments (word_at r.hidden) s.words r.cells.shows r.cells.sound
-                me.0.segments x (subst (λ z. x < slots_for z) cells below) (r.each_segment id me.0 here).seen
-                (λ q. most-counted r.segments r.settled (duties_in (λ (y : View E S). y.facts.duties) s.views) q
-                r.counted);
-            went = t.1;
-          },
-          refl,
-        ),
       )
 
   -- a cell that the pass settled is counted
@@ -749,13 +764,14 @@ module _ {E S : Type 0} (object : Object E) (primitive : Primitive E S) (passes 
       let u = with_counted t q in
       let exact : (n + 1) % 2 ^ 64 ≡ t.counted q + 1 = omega arith in
       let later = counted-later slots t c s.words r.cells.shows r.cells.sound q x at few in
-      let w : View E S = left v u v.facts.spare_slots [] before in (
+      let retires = too (eqb n 31) q v.facts.to_retire in
+      let w : View E S = left v u v.facts.spare_slots [] before retires in (
         w,
         keeps,
         tt,
         subst (λ z. R (stepped s (count_place x) z id me.1 w keeps)) (sym exact)
-            (resegment s r id (count_place x) (t.counted q + 1) me.1 v u v.facts.spare_slots [] before here one
-            (record {
+            (resegment s r id (count_place x) (t.counted q + 1) me.1 v u v.facts.spare_slots [] before retires
+            here one (record {
               behind = omega arith;
               shows = counted-shows slots t c s.words r.cells.shows r.cells.sound q x at few;
               sound = counted-sound slots t c s.words r.cells.shows r.cells.sound q x at few;
@@ -772,6 +788,15 @@ module _ {E S : Type 0} (object : Object E) (primitive : Primitive E S) (passes 
                   let had : times p v.facts.duties ≡ times p before + times p (q ∷ []) =
                   ap (times p) is ∙ times-append p before (q ∷ []) in
                   let none = times-none p q a in omega arith);
+              leaves = λ p all low. dite (ℕ_discrete p q)
+                  (λ (e : p ≡ q).
+                  let now : u.counted p ≡ t.counted q + 1 = changed_at t.counted q (t.counted q + 1) p e in
+                  let last : eqb n 31 ≡ true = eq-eqb n 31 (omega arith) in
+                  inl (inr (subst (λ b. Has p (too b q v.facts.to_retire)) (sym last)
+                  (has_right p v.facts.to_retire (q ∷ []) (inl e)))))
+                  (λ (a : p ≢ q).
+                  let now : u.counted p ≡ t.counted p = changed_else t.counted q (t.counted q + 1) p a in
+                  inr (omega arith, low, λ h. inr (too-has (eqb n 31) q v.facts.to_retire p h)));
               hold = spares-kept slots t u s.views id v w here refl (λ y. refl) r.spares;
             })),
         (
@@ -782,64 +807,13 @@ module _ {E S : Type 0} (object : Object E) (primitive : Primitive E S) (passes 
                 let all = (counted-sound slots t c s.words r.cells.shows r.cells.sound q x at few).full_is q h in
                 let now : u.counted q ≡ t.counted q + 1 = changed_here t.counted q (t.counted q + 1) in
                 absurd (omega arith);
-            left = went-so s r id v u v.facts.spare_slots [] before here later;
+            left = λ less. subst (λ b. LeftBy [] v.facts.spare_slots before
+                (retiring (too b q v.facts.to_retire) v) w) (ne_eqb n 31 (λ e. omega arith))
+                (went-so s r id v u v.facts.spare_slots [] before retires here later);
+            last = λ all. subst (λ b. LeftBy [] v.facts.spare_slots before
+                (retiring (too b q v.facts.to_retire) v) w) (eq-eqb n 31 all)
+                (went-so s r id v u v.facts.spare_slots [] before retires here later);
           },
           refl,
         ),
       )
-
-  -- a segment whose cells are all counted, and that isn't the tail's, leaves, or had left before
-  pub retires : (many id : ℕ) (me : Me (Option S) (View E S)) (x q : ℕ) → me.0.weight ≡ 1
-      → IsHome me.0.segments.homes q x → q + 1 < length me.0.segments.homes → Has q me.0.segments.full
-      → Allows R many id me (head_place x) (λ n. either (eqb n (head_word q 2)) (head_word q 0) n)
-      (λ n me'. Retired x q me.0 n me'.0 × (me'.1 ≡ me.1))
-  retires many id me x q one home early full s r homes here small =
-      by-exchange s id me (head_place x) n (head_word q 2) (head_word q 0) (λ w. Retired x q me.0 n w)
-      (λ e.
-      let was : t.slots x ≡ live q = is-live (t.slots x) q (sym e ∙ (r.cells.shows.each x below).head) in
-      let u = with_slot t x (free q) (t.outs ++ q ∷ []) t.lit in
-      let long : length t.homes ≡ length (me.0.segments.homes ++ known.homes.0) = ap length known.homes.1 in
-      let more = length-append me.0.segments.homes known.homes.0 in
-      let made = r.cells.sound.made in
-      let new = keep-turn s r id (head_place x) (head_word q 0) x me u ((x, n) ∷ []) here one (omega arith)
-      (retired slots t (word_at r.hidden) s.words r.cells.shows r.cells.sound x q at (omega arith)
-      (has_prefix q me.0.segments.full t.full known.full full) e) r.cells.made (λ _. refl)
-      (λ j a d is. no-spare j a d (sym was ∙ is)) in (
-        went me.0 u me.0.facts.spare_slots ((x, n) ∷ []),
-        new.0,
-        record {
-          out = has_right q t.outs (q ∷ []) (inl refl);
-          last = λ _. (t.outs, refl);
-          went = new.1;
-        },
-      ))
-      (λ a.
-      let look = segment-look s r id (head_place x) me ((x, n) ∷ []) here one (omega arith) in (
-        went me.0 t me.0.facts.spare_slots ((x, n) ∷ []),
-        look.0,
-        record {
-          out = (loads.head-found slots t (word_at r.hidden) s.words r.cells.shows r.cells.sound me.0.segments x below
-              known).gone q home early a;
-          last = λ e. absurd (a e);
-          went = look.1;
-        },
-      ))
-    where
-      t : Segments
-      t = r.segments
-
-      n : ℕ
-      n = slice_index s.words (head_place x)
-
-      known : Knows r.segments me.0.segments
-      known = (r.each_segment id me.0 here).seen
-
-      at : IsHome r.segments.homes q x
-      at = home-prefix me.0.segments.homes r.segments.homes q x (r.each_segment id me.0 here).seen.homes home
-
-      below : x < slots_for (cell_count passes limit primitive.values)
-      below = r.cells.sound.inside q x (home-prefix me.0.segments.homes r.segments.homes q x
-          (r.each_segment id me.0 here).seen.homes home)
-
-      no-spare : (j a d : ℕ) → live q ≡ spare j a d → ⊥
-      no-spare j a d e = absurd (cc)

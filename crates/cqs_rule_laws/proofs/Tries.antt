@@ -177,7 +177,7 @@ module _ {E S : Type 0} (object : Object E) where
         came = record {
           number = d.number ∙ ap made_in (sym e.crew);
           own = d.own ∙ ap (λ z. z ∷ []) (sym d.number);
-          facts = ap (λ (f : Facts). record f { spare_slots = []; duties = [] }) d.facts;
+          facts = ap (λ (f : Facts). record f { spare_slots = []; duties = []; to_retire = [] }) d.facts;
           seen = d.seen;
           handed = d.handed;
           bare = refl;

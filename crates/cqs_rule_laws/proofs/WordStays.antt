@@ -1,5 +1,5 @@
 -- Steps that leave the word as it is: a load of the suspend counter, an exchange that isn't made.
-use Rattle.std.proofs.Common.{◌≡◌, ℕ, ◌+◌, ◌<◌, ◌^◌, Bool, true, false, List, [], ◌++◌, set, sym, refl, ap, ◌∙◌, subst, arith, Option, Some, slice_get, nat_lt, ltb-true, if◌then◌else◌}
+use Rattle.std.proofs.Common.{◌≡◌, ℕ, ◌+◌, ◌<◌, ◌^◌, Bool, true, false, List, [], ◌++◌, set, sym, refl, ap, ◌∙◌, subst, inr, arith, Option, Some, slice_get, nat_lt, ltb-true, if◌then◌else◌}
 use Rattle.std.proofs.lemmas.Option.{same_Some}
 use Rattle.std.specs.Prelude.{slice_index, slice_set, count_by}
 use Rattle.std.proofs.lemmas.List.{append-nil, length-set}
@@ -16,7 +16,7 @@ use Rattle.cqs_rule_laws.specs.Layout.{client_words}
 use Rattle.cqs_rule_laws.specs.Views.{grown}
 use Rattle.cqs_rule_laws.specs.Ruled.{Ruled, Stands, CountersShow, CellsShow, IdleWords, HasRoom, DoorMayDraw, IsFinal, cell_count}
 use Rattle.cqs_rule_laws.specs.Client.{IsClient}
-use Rattle.cqs_rule_laws.specs.Lists.{NamesOnly}
+use Rattle.cqs_rule_laws.specs.Lists.{Has, NamesOnly}
 use Rattle.cqs_rule_laws.specs.Loads as load
 use Rattle.cqs_rule_laws.specs.Loads.{loaded_by}
 use Rattle.cqs_rule_laws.specs.Facts.{facts_counted}
@@ -46,9 +46,11 @@ module _ {E S : Type 0} (object : Object E) (primitive : Primitive E S) (passes 
       → NamesOnly object.names v.number es → facts.has.payload < 2 ^ 20 → Keeps primitive.opens v facts
       → d.queue.resumes + draws_in v.facts.found ≡ r.hidden.queue.resumes + draws_in facts.found
       → facts.spare_slots ≡ v.facts.spare_slots → facts.duties ≡ v.facts.duties
+      → facts.to_retire ≡ v.facts.to_retire
       → ((k : ℕ) → r.settled k ≡ true → IsFinal (IsSmart primitive.manner.leaving) d.queue k)
       → Turned object primitive passes limit s r v i (slice_index s.words i) d es facts
-  stays s r v i d es facts counters cells room door shown others self silent owed slots draws spares duties finals =
+  stays s r v i d es facts counters cells room door shown others self silent owed slots draws spares duties
+      retires finals =
       let same : slice_set s.words i (slice_index s.words i) ≡ s.words = set-get_or s.words i 0 in
       record {
         crew = ap (λ l. slice_index l 0) same;
@@ -71,6 +73,7 @@ module _ {E S : Type 0} (object : Object E) (primitive : Primitive E S) (passes 
         finals = finals;
         same_slots = λ y. refl;
         same_spares = spares;
+        leaves = λ q all low. inr (all, low, λ h. inr (subst (Has q) (sym retires) h));
       }
 
   -- the same with no entry
@@ -84,12 +87,14 @@ module _ {E S : Type 0} (object : Object E) (primitive : Primitive E S) (passes 
       → facts.has.payload < 2 ^ 20 → Keeps primitive.opens v facts
       → d.queue.resumes + draws_in v.facts.found ≡ r.hidden.queue.resumes + draws_in facts.found
       → facts.spare_slots ≡ v.facts.spare_slots → facts.duties ≡ v.facts.duties
+      → facts.to_retire ≡ v.facts.to_retire
       → ((k : ℕ) → r.settled k ≡ true → IsFinal (IsSmart primitive.manner.leaving) d.queue k)
       → Turned object primitive passes limit s r v i (slice_index s.words i) d [] facts
-  still s r v i d facts counters cells room door shown others self owed slots draws spares duties finals =
+  still s r v i d facts counters cells room door shown others self owed slots draws spares duties retires
+      finals =
       stays s r v i d [] facts counters cells room door
       (subst (λ l. primitive.shows d (client_words s.words) l r.handed) (sym (append-nil r.log)) shown) others self
-      (λ n apart. refl) owed slots draws spares duties finals
+      (λ n apart. refl) owed slots draws spares duties retires finals
 
   -- nothing hidden changes, and the pass goes on to these facts
   pub looks-to : (s : State (Option S) (View E S)) (r : Ruled object primitive passes limit s) (id : ℕ)
@@ -98,14 +103,15 @@ module _ {E S : Type 0} (object : Object E) (primitive : Primitive E S) (passes 
       → facts.has.payload < 2 ^ 20 → Keeps primitive.opens me.0 facts
       → draws_in facts.found ≡ draws_in me.0.facts.found
       → facts.spare_slots ≡ me.0.facts.spare_slots → facts.duties ≡ me.0.facts.duties
+      → facts.to_retire ≡ me.0.facts.to_retire
       → Steps object primitive passes limit client s id me i
       (slice_index s.words i) [] facts (grown me.0 facts (r.log ++ []) r.handed)
-  looks-to s r id me i facts here one self owed slots draws spares duties =
+  looks-to s r id me i facts here one self owed slots draws spares duties retires =
       steps object primitive passes limit client s r id me i
       (slice_index s.words i) r.hidden [] facts here one
       (still s r me.0 i r.hidden facts r.counters r.cells r.room r.door r.shown
       (others-same r.hidden me.0.number) self owed slots (ap (λ n. r.hidden.queue.resumes + n) (sym draws)) spares
-      duties r.finals)
+      duties retires r.finals)
 
   -- what was found is told by what the client shows
   pub found-so : {C : Type 0} (all : C → Primitive E S) (x : C) → all x ≡ primitive → (s : State (Option S) (View E S))
@@ -185,7 +191,8 @@ module _ {E S : Type 0} (object : Object E) (primitive : Primitive E S) (passes 
         behind = record { reached = at.behind.reached; passed = at.behind.passed };
       })
       k.payload_fits (keeps-all primitive.opens me.0 (facts_counted me.0.limit n f) refl (λ j o. o))
-      (ap (λ m. r.hidden.queue.resumes + m) (sym (draws-word f.found 16 n (λ e. omega arith)))) refl refl final) in (
+      (ap (λ m. r.hidden.queue.resumes + m) (sym (draws-word f.found 16 n (λ e. omega arith)))) refl refl refl final)
+      in (
         grown me.0 (facts_counted me.0.limit n f) (r.log ++ []) r.handed,
         keeps,
         tt,

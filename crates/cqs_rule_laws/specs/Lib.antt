@@ -7,6 +7,7 @@ pub mod Object
 pub mod Segments
 pub mod Spares
 pub mod Settling
+pub mod Retiring
 pub mod SegmentSteps
 pub mod Slots
 pub mod Placed

@@ -30,6 +30,7 @@ use Rattle.cqs_slots.specs.Slots.{Segments}
 use Rattle.cqs_rule_laws.specs.Segments.{KnowsSegments}
 use Rattle.cqs_rule_laws.specs.Spares.{SparesHold}
 use Rattle.cqs_rule_laws.specs.Settling.{duties_in}
+use Rattle.cqs_rule_laws.specs.Retiring.{AreToLeave}
 use Rattle.cqs_rule_laws.specs.Manner.{IsSmart}
 use Rattle.cqs_rule_laws.specs.Slots.{Shelf}
 use Rattle.cqs_rule_laws.specs.Views.{WasCrew, all_own, weight, Apart, Tip, SpentHasNone, first_facts}
@@ -230,6 +231,7 @@ module _ {E S : Type 0} (object : Object E) where
     pub finals : (k : ℕ) → settled k ≡ true → IsFinal (IsSmart primitive.manner.leaving)
         hidden.queue k
     pub counted : AreCounted segments settled (duties_in (λ (v : View E S). v.facts.duties) s.views)
+    pub to_leave : AreToLeave segments s.views
     pub spares : SparesHold (slots_for (cell_count passes limit primitive.values)) segments s.views
     pub idle_words : IdleWords s.words
     pub room : HasRoom passes limit primitive.values hidden

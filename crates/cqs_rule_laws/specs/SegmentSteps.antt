@@ -1,5 +1,6 @@
 -- The steps on the words of segments: none is an event, and each leaves its pass at what it was at,
--- but for the slots that it has spare.
+-- but for the slots that it has spare, the cells that it is to count, and the segments that it is
+-- to retire.
 use Rattle.std.specs.Prelude.{◌≡◌, ◌≢◌, ℕ, ◌+◌, ◌<◌, ◌^◌, List, [], ◌∷◌, ◌++◌, length}
 use Rattle.cqs_words.specs.Head.{head_word}
 use Rattle.cqs_words.specs.Segment.{segment_word}
@@ -10,7 +11,7 @@ use Rattle.cqs_rule_laws.specs.declared.view.Facts.{Facts}
 use Rattle.cqs_rule_laws.specs.declared.view.Spare.{Spare}
 use Rattle.cqs_rule_laws.specs.declared.view.View.{View}
 use Rattle.cqs_rule_laws.specs.Layout.{slots_for}
-use Rattle.cqs_rule_laws.specs.Lists.{Has}
+use Rattle.cqs_rule_laws.specs.Lists.{Has, without}
 
 -- a pass at these facts that has these slots spare and these cells to count, and found these heads
 -- besides
@@ -32,6 +33,17 @@ module _ {E S : Type 0} where
   view_left spares heads duties seen v =
       record v { facts = facts_left spares heads duties v.facts; segments = seen }
 
+  -- the view of a pass that is to retire these segments, and has all else as it has it
+  abbrev pub retiring : List ℕ → View E S → View E S
+  retiring segments v = record v { facts = record v.facts { to_retire = segments } }
+
+  -- and one that is to retire this segment besides, or isn't to retire it any more
+  abbrev pub retiring_too : ℕ → View E S → View E S
+  retiring_too s v = retiring (v.facts.to_retire ++ s ∷ []) v
+
+  abbrev pub not_retiring : ℕ → View E S → View E S
+  not_retiring s v = retiring (without s v.facts.to_retire) v
+
   -- All that the pass knows stays, but for these spare slots, heads and cells to count; and of the
   -- segments it has seen more.
   pub record LeftBy (heads : List (ℕ × ℕ)) (spares : List Spare) (duties : List ℕ) (v w : View E S)
@@ -47,6 +59,12 @@ module _ {E S : Type 0} where
   pub record TailLoaded (v : View E S) (n : ℕ) (w : View E S) : Type 0 where
     pub found : TailFound (slots_for v.cells) n w.segments
     pub went : Went v.facts.spare_slots [] v w
+
+  -- The tail was loaded by a pass that is to retire a segment. The last one is none of those any
+  -- more: who makes the next is to retire it.
+  pub record LastKept (v : View E S) (n : ℕ) (w : View E S) : Type 0 where
+    pub found : TailFound (slots_for v.cells) n w.segments
+    pub went : Went v.facts.spare_slots [] (not_retiring found.id v) w
 
   -- the head of the slot x was
   pub record HeadLoaded (x : ℕ) (v : View E S) (n : ℕ) (w : View E S) : Type 0 where
@@ -77,31 +95,38 @@ module _ {E S : Type 0} where
     pub lit : s < w.segments.lit
     pub went : Went v.facts.spare_slots [] v w
 
-  -- The pass's last spare became the home of the segment after a; or the tail was found to be
-  -- another.
+  -- The pass's last spare became the home of the segment after a, which the pass is to retire then;
+  -- or the tail was found to be another.
   pub record Extended (before : List Spare) (x a slot : ℕ) (v : View E S) (n : ℕ) (w : View E S)
       : Type 0 where
     pub home : n ≡ segment_word a slot → IsHome w.segments.homes (a + 1) x
     pub last : n ≡ segment_word a slot → length w.segments.homes ≡ a + 2
-    pub made : n ≡ segment_word a slot → Went before [] v w
+    pub made : n ≡ segment_word a slot → Went before [] (retiring_too a v) w
     pub found : n ≢ segment_word a slot → TailFound (slots_for v.cells) n w.segments
     pub missed : n ≢ segment_word a slot → Went v.facts.spare_slots [] v w
 
-  -- A cell that the pass settled was counted, as it was to do last.
+  -- A cell that the pass settled was counted, as it was to do last. Where it was the last of its
+  -- segment, the pass is to retire that.
   pub record CellCounted (before : List ℕ) (s : ℕ) (v : View E S) (n : ℕ) (w : View E S) : Type 0
     where
       pub few : n < 32
       pub full : n ≡ 31 → Has s w.segments.full
       pub early : n < 31 → Has s w.segments.full → ⊥
-      pub left : LeftBy [] v.facts.spare_slots before v w
+      pub left : n < 31 → LeftBy [] v.facts.spare_slots before v w
+      pub last : n ≡ 31 → LeftBy [] v.facts.spare_slots before (retiring_too s v) w
 
-  -- the number of settled cells in the slot x was loaded
+  -- The number of settled cells in the slot x was loaded. Where it isn't that of all cells, no
+  -- segment whose home the slot was is to be retired by the pass any more.
   pub record CountLoaded (x : ℕ) (v : View E S) (n : ℕ) (w : View E S) : Type 0 where
     pub found : CountFound x n v.segments w.segments
-    pub went : Went v.facts.spare_slots [] v w
+    pub to_retire : List ℕ
+    pub fewer : (s : ℕ) → Has s to_retire → Has s v.facts.to_retire
+    pub early : n < 32 → (s : ℕ) → IsHome v.segments.homes s x → Has s to_retire → ⊥
+    pub went : Went v.facts.spare_slots [] (retiring to_retire v) w
 
-  -- The segment left by this step, and is the last that did; or it had left before.
+  -- The segment left by this step, and is the last that did; or it had left before. The pass isn't
+  -- to retire it any more.
   pub record Retired (x s : ℕ) (v : View E S) (n : ℕ) (w : View E S) : Type 0 where
     pub out : Has s w.segments.outs
     pub last : n ≡ head_word s 2 → (before : List ℕ) × (w.segments.outs ≡ before ++ s ∷ [])
-    pub went : Went v.facts.spare_slots ((x, n) ∷ []) v w
+    pub went : Went v.facts.spare_slots ((x, n) ∷ []) (not_retiring s v) w

@@ -35,6 +35,7 @@ first_facts held = record {
   open_slot = None;
   spare_slots = [];
   duties = [];
+  to_retire = [];
   heads = [];
   found = [];
 }
@@ -49,6 +50,7 @@ facts_joined mine theirs = record mine {
   has = has_both mine.has theirs.has;
   spare_slots = mine.spare_slots ++ theirs.spare_slots;
   duties = mine.duties ++ theirs.duties;
+  to_retire = mine.to_retire ++ theirs.to_retire;
 }
 
 -- it rises with each pass made and each pass met away
@@ -114,15 +116,15 @@ module _ {E S : Type 0} where
   abbrev pub cut_off : View E S → View E S
   cut_off v = record (single v) {
     number = v.second_number;
-    facts = record v.second { spare_slots = []; duties = [] };
+    facts = record v.second { spare_slots = []; duties = []; to_retire = [] };
     seen = v.other;
     handed = v.other_handed;
     laid = [];
     own = v.others;
   }
 
-  -- the view takes in that of another pass, which holds nothing, has no slot spare and no cell to
-  -- count then
+  -- the view takes in that of another pass, which holds nothing, has no slot spare, no cell to
+  -- count and no segment to retire then
   abbrev pub joined : View E S → View E S → View E S
   joined v u = record v {
     weight = 2;
@@ -183,10 +185,12 @@ module _ {E S : Type 0} where
       (i j : ℕ) (v w : View E S) (n : ℕ) → get_elem? views i ≡ some v → get_elem? views j ≡ some w
       → lists.Has n (all_own v) → lists.Has n (all_own w) → i ≡ j
 
-  -- what is left of a view that was spent: it has no number, and no cell to count
+  -- what is left of a view that was spent: it has no number, no cell to count, and no segment to
+  -- retire
   pub record IsSpent (v : View E S) : Type 0 where
     pub numberless : (n : ℕ) → lists.Has n (all_own v) → ⊥
     pub dutiless : v.facts.duties ≡ []
+    pub retireless : v.facts.to_retire ≡ []
 
   abbrev pub SpentHasNone : List (View E S) → Type 0
   SpentHasNone views = (j : ℕ) (v : View E S) → get_elem? views j ≡ some v → v.weight ≡ 0

@@ -14,7 +14,8 @@ use Rattle.cqs_rule_laws.specs.Lists.{Has}
 use Rattle.cqs_rule_laws.specs.Object.{Object, Primitive}
 use Rattle.cqs_rule_laws.specs.Ruled.{Ruled}
 use Rattle.cqs_rule_laws.specs.SegmentSteps.{Began, CellCounted, Claimed, CountLoaded, Extended, HeadLoaded, Lit, Reset, Retired}
-use Rattle.cqs_rule_laws.proofs.SegmentSteps.{begins, claims, counts, extends, gives-back, lights, loads-count, loads-head, resets, resets-count, retires}
+use Rattle.cqs_rule_laws.proofs.Retiring.{loads-count, retires}
+use Rattle.cqs_rule_laws.proofs.SegmentSteps.{begins, claims, counts, extends, gives-back, lights, loads-head, resets, resets-count}
 use Rattle.cqs_segment.specs.Told.{add_told, back_told, begin_told, claim_told, count_told, extend_told, head_told, light_told, reset_told, retire_told}
 use Rattle.cqs_segment.specs.Walks.{but_last, EndsAt, EndsReset}
 use Rattle.cqs_segment.proofs.Endings.{one-duty, one-spare}

@@ -8,10 +8,10 @@ use Rattle.cqs_slots.proofs.Lists.{home-prefix}
 use Rattle.cqs_rule_laws.specs.declared.view.Spare.{Spare}
 use Rattle.cqs_rule_laws.specs.declared.view.View.{View}
 use Rattle.cqs_rule_laws.specs.Layout.{slots_for}
-use Rattle.cqs_rule_laws.specs.SegmentSteps.{Began, Extended, LeftBy, reset_slot, Went}
+use Rattle.cqs_rule_laws.specs.SegmentSteps.{Began, Extended, LeftBy, reset_slot, retiring, retiring_too, Went}
 use Rattle.cqs_segment.specs.Walks.{but_last, EndsReset, Left, Looked}
 use Rattle.cqs_segment.proofs.Endings.{ends-reset}
-use Rattle.cqs_segment.proofs.Walks.{and-looked, and-then, duties-left, ends-now, spares-left, went-then}
+use Rattle.cqs_segment.proofs.Walks.{and-looked, and-then, duties-left, ends-now, left-retiring, retires-left, spares-left, went-then}
 
 -- a comparison of two tails found them to be one, or two
 both-true : (p q : Bool) → false ≡ not (p && q) → (p ≡ true) × (q ≡ true)
@@ -111,12 +111,18 @@ module _ {E S : Type 0} where
   module _ (u v : View E S) (before : List Spare) (x a slot : ℕ) (duties : List ℕ) (n : ℕ) (w : View E S)
       (reset : Left (before ++ reset_slot x a 34 ∷ []) duties u v)
       (e : Extended (but_last v.facts.spare_slots) x a slot v n w) where
-    -- the spare is none any more where the exchange was made
-    pub extension-made : n ≡ segment_word a slot → Left before duties u w
+    -- the spare is none any more where the exchange was made, and the segment before is to be retired
+    pub extension-made : n ≡ segment_word a slot → Left before duties (retiring_too a u) w
     extension-made is =
         let same = (ends-reset before x a 34 v.facts.spare_slots (spares-left u v reset.0 _ duties reset.1)).0 in
-        went-then u v w (before ++ reset_slot x a 34 ∷ []) before duties [] reset
-        (subst (λ l. Went l [] v w) same (e.made is))
+        let then = v.facts.to_retire ++ a ∷ [] in
+        subst (λ l. Left before duties (retiring (l ++ a ∷ []) u) w)
+        (retires-left u v reset.0 (before ++ reset_slot x a 34 ∷ []) duties reset.1)
+        (went-then (retiring then u) (retiring then v) w (before ++ reset_slot x a 34 ∷ []) before duties [] (
+          reset.0,
+          left-retiring u v reset.0 (before ++ reset_slot x a 34 ∷ []) duties u.facts.to_retire then reset.1,
+        )
+        (subst (λ l. Went l [] (retiring then v) w) same (e.made is)))
 
     -- and is kept where it wasn't
     pub extension-missed : n ≢ segment_word a slot

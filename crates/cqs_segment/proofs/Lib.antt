@@ -1,5 +1,6 @@
 mod Allowed
 pub mod Endings
 mod Extensions
+mod Leavings
 mod Taken
 pub mod Walks

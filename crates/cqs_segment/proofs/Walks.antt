@@ -5,7 +5,7 @@ use Rattle.cqs_slots.specs.Told.{SeesMore}
 use Rattle.cqs_slots.proofs.Loads.{sees-same, sees-then}
 use Rattle.cqs_rule_laws.specs.declared.view.Spare.{Spare}
 use Rattle.cqs_rule_laws.specs.declared.view.View.{View}
-use Rattle.cqs_rule_laws.specs.SegmentSteps.{LeftBy, reset_slot, Reset, view_left, Went}
+use Rattle.cqs_rule_laws.specs.SegmentSteps.{LeftBy, reset_slot, Reset, retiring, view_left, Went}
 use Rattle.cqs_segment.specs.Walks.{but_last, EndsReset, IsWalker, Left, Looked}
 use Rattle.cqs_segment.proofs.Endings.{ends-reset}
 
@@ -34,6 +34,17 @@ module _ {E S : Type 0} where
       → Left spares duties u v → Left later fewer v w → Left later fewer u w
   and-then u v w spares later duties fewer p q =
       (p.0 ++ q.0, left-then u v w p.0 q.0 spares later duties fewer p.1 q.1)
+
+  -- the same of a pass that is to retire these segments instead
+  pub left-retiring : (v w : View E S) (heads : List (ℕ × ℕ)) (spares : List Spare) (duties first then : List ℕ)
+      → LeftBy heads spares duties (retiring first v) w → LeftBy heads spares duties (retiring then v) (retiring then w)
+  left-retiring v w heads spares duties first then p =
+      record { is = ap (retiring then) p.is; segments = p.segments }
+
+  -- what a pass is to retire then
+  pub retires-left : (v w : View E S) (heads : List (ℕ × ℕ)) (spares : List Spare) (duties : List ℕ)
+      → LeftBy heads spares duties v w → w.facts.to_retire ≡ v.facts.to_retire
+  retires-left v w heads spares duties p = ap (λ (z : View E S). z.facts.to_retire) p.is
 
   -- what a pass has spare then, and is to count
   pub spares-left : (v w : View E S) (heads : List (ℕ × ℕ)) (spares : List Spare) (duties : List ℕ)
@@ -93,6 +104,15 @@ module _ {E S : Type 0} where
   pub and-looked : (u v w : View E S) (spares : List Spare) (duties : List ℕ)
       → Left spares duties u v → Looked v w → Left spares duties u w
   and-looked u v w spares duties p q = (p.0 ++ q.0, looked-then u v w p.0 q.0 spares duties p.1 q.1)
+
+  -- two steps that leave the spares, by which the pass is to retire other segments
+  pub retiring-then : (u v w : View E S) (heads more : List (ℕ × ℕ)) (spares : List Spare) (duties first then : List ℕ)
+      → LeftBy heads spares duties (retiring first u) v
+      → LeftBy more v.facts.spare_slots v.facts.duties (retiring then v) w
+      → LeftBy (heads ++ more) spares duties (retiring then u) w
+  retiring-then u v w heads more spares duties first then p q =
+      looked-then (retiring then u) (retiring then v) w heads more spares duties
+      (left-retiring u v heads spares duties first then p) q
 
   -- a pass that walks knows no fewer segments
   pub longer : (v w : View E S) → SeesMore v.segments w.segments

@@ -6,7 +6,7 @@ use Rattle.cqs_slots.specs.Slots.{IsHome}
 use Rattle.cqs_slots.specs.Told.{TailFound}
 use Rattle.cqs_rule_laws.specs.declared.view.View.{View}
 use Rattle.cqs_rule_laws.specs.Layout.{slots_for}
-use Rattle.cqs_rule_laws.specs.SegmentSteps.{LeftBy, reset_slot}
+use Rattle.cqs_rule_laws.specs.SegmentSteps.{LeftBy, reset_slot, retiring_too}
 use Rattle.cqs_segment.specs.Walks.{but_last, Left}
 use Rattle.cqs_segment.specs.declared.extending.Extended.{Extended}
 use Rattle.cqs_segment.specs.declared.extending.Extended.TheVariants.{Made, Seen}
@@ -25,11 +25,13 @@ module _ {E S : Type 0} where
       ⊎ (Left (but_last v.facts.spare_slots ++ reset_slot x after.id 34 ∷ []) v.facts.duties v w
       × (after.id < w.segments.lit))
 
-  -- The spare became the segment after this one; or the tail was found to be another.
+  -- The spare became the segment after this one, which the pass is to retire then; or the tail was
+  -- found to be another.
   abbrev pub ExtendsTo : TailWord → ℕ → Extended → View E S → View E S → Type 0
   ExtendsTo after x (Made tail) v w =
       (tail ≡ record { id = after.id + 1; slot = x })
-      × IsMade tail w × Left (but_last v.facts.spare_slots) v.facts.duties v w
+      × IsMade tail w
+      × Left (but_last v.facts.spare_slots) v.facts.duties (retiring_too after.id v) w
   ExtendsTo after x (Seen tail) v w =
       (tail ≢ after) × TailFound (slots_for w.cells) (packed_tail tail) w.segments
       × IsKept after x tail v w

@@ -1,11 +1,12 @@
--- Where a segment is told to be, and what became of it.
+-- Where a segment is told to be, how many of its cells are counted, and what became of it.
 use Rattle.std.specs.Prelude.{◌≡◌, ◌≢◌, ℕ, ◌+◌, ◌<◌, ◌≤◌, ◌++◌, [], ◌∷◌, List, length}
 use Rattle.cqs_words.specs.Head.{head_word}
 use Rattle.cqs_slots.specs.Slots.{IsHome}
 use Rattle.cqs_rule_laws.specs.declared.view.View.{View}
 use Rattle.cqs_rule_laws.specs.Layout.{slots_for}
 use Rattle.cqs_rule_laws.specs.Lists.{Has}
-use Rattle.cqs_rule_laws.specs.SegmentSteps.{LeftBy}
+use Rattle.cqs_rule_laws.specs.SegmentSteps.{LeftBy, retiring, retiring_too}
+use Rattle.cqs_segment.specs.Walks.{but_last, Looked}
 use Rattle.cqs_segment.specs.declared.walk.Found.{Found}
 use Rattle.cqs_segment.specs.declared.walk.Found.TheVariants.{At, Over, Far}
 use Rattle.cqs_segment.specs.declared.leaving.Retired.{Retired}
@@ -35,3 +36,19 @@ Retires x s Last v w =
 Retires x s (Early counted) v w =
     (counted < 32) × (Has s w.segments.full → Has s w.segments.outs)
     × LeftBy [] v.facts.spare_slots v.facts.duties v w
+
+-- After this answer the pass isn't to retire the segment any more, and no other one that it wasn't
+-- to retire before. All else that it has is as it was.
+pub record IsDoneWith {E S : Type 0} (x s : ℕ) (answer : Retired) (v w : View E S) : Type 0 where
+  pub to_retire : List ℕ
+  pub done : Has s to_retire → ⊥
+  pub fewer : (q : ℕ) → Has q to_retire → Has q v.facts.to_retire
+  pub retires : Retires x s answer (retiring to_retire v) w
+  pub looked : Looked (retiring to_retire v) w
+
+-- The pass has one cell less to count, the last. Where all 32 of its segment are counted then, the
+-- pass is to retire the segment.
+pub record Counts {E S : Type 0} (s counted : ℕ) (v w : View E S) : Type 0 where
+  pub some : counted < 32 → LeftBy [] v.facts.spare_slots (but_last v.facts.duties) v w
+  pub all : counted ≡ 32
+      → LeftBy [] v.facts.spare_slots (but_last v.facts.duties) (retiring_too s v) w

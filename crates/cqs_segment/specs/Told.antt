@@ -5,13 +5,17 @@ use Rattle.cqs_words.specs.Head.{head_word}
 use Rattle.cqs_words.specs.Segment.{segment_word}
 use Rattle.cqs_slots.specs.Layout.{head_place, count_place}
 use Rattle.cqs_rule_laws.specs.declared.view.View.{View}
-use Rattle.cqs_rule_laws.specs.SegmentSteps.{Began, CellCounted, Claimed, CountLoaded, Extended, HeadLoaded, Lit, Reset, Retired, TailLoaded, Went}
+use Rattle.cqs_rule_laws.specs.SegmentSteps.{Began, CellCounted, Claimed, CountLoaded, Extended, HeadLoaded, LastKept, Lit, Reset, Retired, TailLoaded, Went}
 use Rattle.cqs_segment.specs.Walks.{but_last, EndsAt, EndsReset}
 
 module _ {E S : Type 0} where
   abbrev pub tail_told : Step (Option S) → Me (Option S) (View E S) → ℕ
       → Me (Option S) (View E S) → Type 0
   tail_told st me n me' = TailLoaded me.0 n me'.0 × (me'.1 ≡ me.1)
+
+  abbrev pub last_told : Step (Option S) → Me (Option S) (View E S) → ℕ
+      → Me (Option S) (View E S) → Type 0
+  last_told st me n me' = LastKept me.0 n me'.0 × (me'.1 ≡ me.1)
 
   abbrev pub head_told : Step (Option S) → Me (Option S) (View E S) → ℕ
       → Me (Option S) (View E S) → Type 0

@@ -72,10 +72,10 @@ fn make_live<C: ClientWords>(
     }
 }
 
-/// Makes the segment after this one, which the pass knows, in the pass's last spare slot. It loads
-/// the tail before it resets a word of the slot: so the slot is never reset for a segment that it
-/// was the home of. Where the tail is found to be another, before or by the exchange, that one is
-/// answered and the slot stays spare.
+/// Makes the segment after this one, which the pass knows, in the pass's last spare slot. The pass
+/// is to retire this one then. It loads the tail before it resets a word of the slot: so the slot
+/// is never reset for a segment that it was the home of. Where the tail is found to be another,
+/// before or by the exchange, that one is answered and the slot stays spare.
 pub fn extend<C: ClientWords>(
     words: &Shared<Option<C::Slot>, View<C::Entry, C::Slot>, Key<C>, Rule<C>>,
     seat: &mut Seat<Option<C::Slot>, View<C::Entry, C::Slot>>,

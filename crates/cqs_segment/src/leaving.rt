@@ -1,15 +1,14 @@
 //! Settled cells are counted, and a segment leaves.
 
-ghost use Rattle.std.specs.Prelude.{◌≡◌, ◌<◌, ◌≤◌, ◌^◌, []};
+ghost use Rattle.std.specs.Prelude.{◌≡◌, ◌<◌, ◌≤◌, ◌^◌};
 ghost use mathlib.Core.Logic.{◌↔◌};
 ghost use Rattle.cqs_slots.specs.Slots.{IsHome};
 ghost use Rattle.cqs_rule_laws.specs.Layout.{slots_for};
 ghost use Rattle.cqs_rule_laws.specs.Lists.{Has};
-ghost use Rattle.cqs_rule_laws.specs.SegmentSteps.{LeftBy};
-ghost use Rattle.cqs_segment.specs.Finds.{Retires};
-ghost use Rattle.cqs_segment.specs.Walks.{but_last, EndsAt, IsWalker, Looked};
+ghost use Rattle.cqs_segment.specs.Finds.{Counts, IsDoneWith};
+ghost use Rattle.cqs_segment.specs.Walks.{EndsAt, IsWalker};
 
-use crate::steps::{add_count, load_count, load_tail, retire_slot};
+use crate::steps::{add_count, keep_last, load_count, retire_slot};
 use atomic_table::{Seat, Shared};
 use cqs_rule_laws::{ClientWords, Key, Rule, View};
 use cqs_words::{HeadTag, HeadWord};
@@ -31,7 +30,8 @@ pub enum Retired {
 }
 
 /// Counts a cell that the pass settled: the last of those that it is to count, one of this
-/// segment. It answers how many of the segment's cells are counted then, this one among them.
+/// segment. It answers how many of the segment's cells are counted then, this one among them. Where
+/// all are, the pass is to retire the segment.
 pub fn count_settled<C: ClientWords>(
     words: &Shared<Option<C::Slot>, View<C::Entry, C::Slot>, Key<C>, Rule<C>>,
     seat: &mut Seat<Option<C::Slot>, View<C::Entry, C::Slot>>,
@@ -47,15 +47,14 @@ pub fn count_settled<C: ClientWords>(
     ensures some { 0 < result }
     ensures few { result ≤ 32 }
     ensures all { (result ≡ 32) ↔ Has id seat.new.me.0.segments.full }
-    ensures counted { LeftBy [] seat.old.me.0.facts.spare_slots
-        (but_last seat.old.me.0.facts.duties) seat.old.me.0 seat.new.me.0 }
+    ensures counted { Counts id result seat.old.me.0 seat.new.me.0 }
     ensures bare { seat.new.me.1 ≡ seat.old.me.1 }
 {
     add_count::<C>(words, seat, slot, id) as u32 + 1
 }
 
 /// Takes a segment out where its 32 cells are counted and it isn't the last one. The slot is, or
-/// was, its home.
+/// was, its home. The pass isn't to retire it any more then, whatever the answer.
 pub fn retire<C: ClientWords>(
     words: &Shared<Option<C::Slot>, View<C::Entry, C::Slot>, Key<C>, Rule<C>>,
     seat: &mut Seat<Option<C::Slot>, View<C::Entry, C::Slot>>,
@@ -68,11 +67,10 @@ pub fn retire<C: ClientWords>(
     requires small { id < 2 ^ 36 }
     requires home { IsHome seat.old.me.0.segments.homes id slot }
     ensures table { seat.new.table_id ≡ seat.old.table_id }
-    ensures retires { Retires slot id result seat.old.me.0 seat.new.me.0 }
-    ensures looked { Looked seat.old.me.0 seat.new.me.0 }
+    ensures retires { IsDoneWith slot id result seat.old.me.0 seat.new.me.0 }
     ensures bare { seat.new.me.1 ≡ seat.old.me.1 }
 {
-    if load_tail::<C>(words, seat).id == id {
+    if keep_last::<C>(words, seat).id == id {
         return Retired::Last;
     }
     let counted = load_count::<C>(words, seat, slot);

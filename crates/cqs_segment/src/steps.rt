@@ -6,13 +6,13 @@ ghost use Rattle.cqs_words.specs.Segment.{TailFits, packed_tail};
 ghost use Rattle.cqs_slots.specs.Slots.{IsHome};
 ghost use Rattle.cqs_rule_laws.specs.Layout.{slots_for};
 ghost use Rattle.cqs_rule_laws.specs.Lists.{Has};
-ghost use Rattle.cqs_rule_laws.specs.SegmentSteps.{Began, CellCounted, Claimed, CountLoaded, Extended, HeadLoaded, Lit, Reset, Retired, TailLoaded, Went};
+ghost use Rattle.cqs_rule_laws.specs.SegmentSteps.{Began, CellCounted, Claimed, CountLoaded, Extended, HeadLoaded, LastKept, Lit, Reset, Retired, TailLoaded, Went};
 ghost use Rattle.cqs_segment.specs.Walks.{but_last, EndsAt, EndsReset, EndsWith, IsWalker};
 
 use crate::places::{cell_at, count_at, head_at};
 use crate::told::{
-    Beginning, Claiming, CountLoad, Counting, Extending, GivingBack, HeadLoad, Lighting, Resetting,
-    Retiring, TailLoad,
+    Beginning, Claiming, CountLoad, Counting, Extending, GivingBack, HeadLoad, LastKeeping,
+    Lighting, Resetting, Retiring, TailLoad,
 };
 use atomic_table::{Seat, Shared};
 use cqs_rule_laws::{
@@ -32,6 +32,25 @@ pub(crate) fn load_tail<C: ClientWords>(
     ensures bare { seat.new.me.1 ≡ seat.old.me.1 }
 {
     let word = load_at::<C, TailLoad<C>>(words, seat, TAIL_WORD);
+    match TailWord::unpack(word) {
+        Some(tail) => tail,
+        None => unreachable!(),
+    }
+}
+
+// The same by a pass that is to retire a segment: the last one is none of those any more.
+pub(crate) fn keep_last<C: ClientWords>(
+    words: &Shared<Option<C::Slot>, View<C::Entry, C::Slot>, Key<C>, Rule<C>>,
+    seat: &mut Seat<Option<C::Slot>, View<C::Entry, C::Slot>>,
+) -> TailWord
+    requires table { seat.old.table_id ≡ words.now.table_id }
+    requires walker { IsWalker words.now.table_id.words seat.old.me.0 }
+    ensures table { seat.new.table_id ≡ seat.old.table_id }
+    ensures kept { LastKept seat.old.me.0 (packed_tail result) seat.new.me.0 }
+    ensures fits { TailFits result }
+    ensures bare { seat.new.me.1 ≡ seat.old.me.1 }
+{
+    let word = load_at::<C, LastKeeping<C>>(words, seat, TAIL_WORD);
     match TailWord::unpack(word) {
         Some(tail) => tail,
         None => unreachable!(),

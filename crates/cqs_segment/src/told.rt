@@ -1,6 +1,6 @@
 //! What each single step tells. These types are for the proofs alone.
 
-ghost use Rattle.cqs_segment.specs.Told.{add_told, back_told, begin_told, claim_told, count_told, extend_told, head_told, light_told, reset_told, retire_told, tail_told};
+ghost use Rattle.cqs_segment.specs.Told.{add_told, back_told, begin_told, claim_told, count_told, extend_told, head_told, last_told, light_told, reset_told, retire_told, tail_told};
 
 use cqs_rule_laws::{ClientWords, Telling};
 use std::marker::PhantomData;
@@ -12,6 +12,15 @@ pub(crate) struct TailLoad<C> {
 
 impl<C: ClientWords> Telling<C> for TailLoad<C> {
     ghost told = { tail_told };
+}
+
+/// The tail is loaded by a pass that is to retire a segment.
+pub(crate) struct LastKeeping<C> {
+    of: PhantomData<C>,
+}
+
+impl<C: ClientWords> Telling<C> for LastKeeping<C> {
+    ghost told = { last_told };
 }
 
 /// The head of a slot is loaded.

@@ -2,6 +2,7 @@ use Rattle.std.proofs.Common.{◌≢◌, inl, inr, refl, sym, ap, subst, arith}
 use Rattle.cqs_words.specs.Segment.{packed_tail, TailFits}
 use Rattle.cqs_slots.specs.Told.{TailFound}
 use Rattle.cqs_rule_laws.specs.Layout.{slots_for}
+use Rattle.cqs_rule_laws.specs.SegmentSteps.{retiring_too}
 use Rattle.cqs_segment.specs.Walks.{but_last}
 use Rattle.cqs_segment.proofs.Extensions.{begun-home, compared-other, compared-same, ends-lit, extension-made, extension-missed, home-lit, home-reset, home-then, left-lit, one-tail, start-ends}
 use Rattle.cqs_segment.proofs.Walks.{and-looked}
@@ -97,6 +98,6 @@ returns-clause-extends g c =
             (c.swap_tail-found.ensures.extended.home is);
         lit = c.make_live-2.ensures.lit;
       },
-      and-looked u y last (but_last u.facts.spare_slots) u.facts.duties made
+      and-looked (retiring_too c.args.after.id u) y last (but_last u.facts.spare_slots) u.facts.duties made
           c.make_live-2.ensures.looked,
     )

@@ -1,7 +1,7 @@
-use Rattle.std.proofs.Common.{length, sym, ap, ◌∙◌, subst, arith}
+use Rattle.std.proofs.Common.{[], ◌∷◌, ◌++◌, length, sym, ap, ◌∙◌, subst, arith}
 use Rattle.cqs_segment.specs.declared.extending.Extended.TheVariants.{Made, Seen}
 use Rattle.cqs_segment.specs.Extends.{ExtendsTo}
-use Rattle.cqs_rule.proofs.Segments.{belongs-left, has-less, has-still, keeps-left, kept-left, many-slots, walks}
+use Rattle.cqs_rule.proofs.Segments.{belongs-left, belongs-retiring, has-less, has-still, keeps-left, keeps-retiring, kept-left, many-slots, walks}
 use Rattle.cqs_rule.proofs.queue.Queue.extend.Goals as goal
 
 pub extend-extended-requires-clause-walker : goal.extend-extended-requires-clause-walker
@@ -29,7 +29,7 @@ invariant_of-pass g c =
     let made : ExtendsTo c.args.after c.in-Some.slot (Made c.in-Made.field-0) v w =
     subst (λ a. ExtendsTo c.args.after c.in-Some.slot a v w) c.in-Made.is c.extend-extended.ensures.extends in
     let seat = c.extend-extended.new.seat in
-    keeps-left p w made.2.0 _ v.facts.duties c.in-Some.others made.2.1
+    keeps-retiring p w made.2.0 _ v.facts.duties (v.facts.to_retire ++ c.args.after.id ∷ []) c.in-Some.others made.2.1
     (has-less v.facts.spare_slots v.cells c.in-Some.slot p.spares c.in-Some.others p.spares_are
     c.in-Some.ensures.some).2
     seat.me.1 seat.table_id c.extend-extended.ensures.bare c.extend-extended.ensures.table
@@ -62,7 +62,8 @@ returns-in-Made-clause-belongs g c =
     let w = c.extend-extended.new.seat.me.0 in
     let made : ExtendsTo c.args.after c.in-Some.slot (Made c.in-Made.field-0) v w =
     subst (λ a. ExtendsTo c.args.after c.in-Some.slot a v w) c.in-Made.is c.extend-extended.ensures.extends in
-    belongs-left c.args.self.now p _ made.2.0 _ v.facts.duties c.requires.belongs made.2.1
+    belongs-retiring c.args.self.now p _ made.2.0 _ v.facts.duties (v.facts.to_retire ++ c.args.after.id ∷ [])
+    c.requires.belongs made.2.1
     c.extend-extended.ensures.table
 
 pub returns-in_default-clause-belongs : goal.returns-in_default-clause-belongs

@@ -40,7 +40,9 @@ use Rattle.cqs_rule_laws.specs.Saw.{Saw, WasShown, WasFound, WasSo}
 use Rattle.cqs_rule_laws.proofs.Calls.{called-by, called-then, called-and, saw-then}
 use Rattle.cqs_rule.proofs.Places.{knows-saw, knows-at}
 use Rattle.cqs_cell.proofs.Answered.{number-found, word-found}
-use Rattle.cqs_cell.specs.Looks.{LooksAt}
+use Rattle.cqs_rule_laws.specs.Settling.{settles_row}
+use Rattle.cqs_rule.specs.Counting.{counted_after}
+use Rattle.cqs_cell.specs.Looks.{LooksAt, settles_event}
 use Rattle.cqs_cell.specs.Transitions.{facts_since, Made, MadeBy, HasMade, Missed, MissedBy, HasMissed, HasSettled}
 use Rattle.cqs_cancel.specs.declared.cancelling.Left.{Left}
 use Rattle.cqs_cancel.specs.declared.cancelling.Left.TheVariants.{Gone, GoneOwing, Late}
@@ -131,8 +133,8 @@ module _ {C E S : Type 0} (object : Object E) (primitive : C → Primitive E S) 
       let entries_are : object.entries s u.number k (payload_told row.gain payload u.facts.has.payload)
       ≡ object.entries s v.number k told = λ i. object.entries s (number i) k (told_same i) in
       let glimpse : Glimpse = record { number = k; state = row.finds; payload = payload } in
-      let now : Facts =
-      facts_worked object.gains row k m.word (payload_told row.gain payload u.facts.has.payload) m.before in
+      let now : Facts = counted_after (settles_row row) m.heads
+      (facts_worked object.gains row k m.word (payload_told row.gain payload u.facts.has.payload) m.before) in
       let few = m.few in
       let there = a.moved.was word refl in
       let more = saw-more u w _ _ m.saw in
@@ -156,8 +158,10 @@ module _ {C E S : Type 0} (object : Object E) (primitive : C → Primitive E S) 
             (called-by object v u _ (event.entries at) a.moved.saw)
             (subst (λ (es : List E). Saw object u now es w) entries_are m.saw);
         was = subst (λ (es : List E). WasFound primitive (HasCell glimpse) es w) entries_are m.was;
-        facts_are = m.saw.facts_are
-            ∙ ((λ i. facts_worked object.gains row k m.word (told_same i) (m.before_is i))
+        heads = m.heads;
+        few_heads = m.few_heads;
+        facts_are = m.saw.facts_are ∙ ap (counted_after (settles_row row) m.heads)
+            ((λ i. facts_worked object.gains row k m.word (told_same i) (m.before_is i))
             ∙ (λ i. facts_worked object.gains row k m.word told (facts_tried m.found (is i))));
       }
 
@@ -201,9 +205,12 @@ module _ {C E S : Type 0} (object : Object E) (primitive : C → Primitive E S) 
         called = subst (λ (z : List E × List E). Called object v (first ++ z.0) z.1 w) (λ i. (rest_is i, last_is i))
             (called-and object v u w first first _ _ (called-by object v u facts first saw) t.called);
         was = subst (λ (es : List E). WasFound primitive (HasCell glimpse) es w) last_is t.was;
+        heads = t.heads;
+        few_heads = t.few_heads;
         facts_are = t.facts_are
-            ∙ ap (λ (m : Moment). facts_worked object.gains row k t.found t.told
-            (facts_tried t.tried (facts_moved event (client_place word) m)))
+            ∙ ap (λ (m : Moment). counted_after (settles_row row) t.heads
+            (facts_worked object.gains row k t.found t.told
+            (facts_tried t.tried (facts_moved event (client_place word) m))))
             at_is;
       }
 
@@ -328,12 +335,16 @@ module _ {C E S : Type 0} (object : Object E) (primitive : C → Primitive E S) 
       let es : List E = object.entries (looks late) v.number k cell.payload in
       let entries_are : look_entries object primitive (event_of cancels h.state) u.number h u.facts ≡ es =
       (λ i. look_entries object primitive (event_of cancels (is i).state) (m.saw.same.number i) (is i) u.facts) in
-      let facts_are : facts_looked object.gains (event_of cancels h.state) l.word h u.facts
-      ≡ facts_after object.gains (row_of (looks late)) k l.word cell.payload before =
-      (λ i. facts_looked object.gains (event_of cancels (is i).state) l.word (is i) (m.saw.facts_are i))
-      ∙ (λ i. facts_looked object.gains (Some (looks late)) l.word (served_glimpse k cell.payload)
-      (facts_missed (word_is i) (first_is i) v.facts)) in
-      let saw : Saw object u (facts_after object.gains (row_of (looks late)) k l.word cell.payload before) es w =
+      let heads = l.looked.heads in
+      let facts_are : counted_after (settles_event (event_of cancels h.state)) heads
+      (facts_looked object.gains (event_of cancels h.state) l.word h u.facts)
+      ≡ counted_after true heads (facts_after object.gains (row_of (looks late)) k l.word cell.payload before) =
+      (λ i. counted_after (settles_event (event_of cancels (is i).state)) heads
+      (facts_looked object.gains (event_of cancels (is i).state) l.word (is i) (m.saw.facts_are i)))
+      ∙ (λ i. counted_after true heads (facts_looked object.gains (Some (looks late)) l.word
+      (served_glimpse k cell.payload) (facts_missed (word_is i) (first_is i) v.facts))) in
+      let saw : Saw object u
+      (counted_after true heads (facts_after object.gains (row_of (looks late)) k l.word cell.payload before)) es w =
       subst (λ (z : Facts × List E). Saw object u z.0 z.1 w) (λ i. (facts_are i, entries_are i)) l.looked.saw in
       record {
         word = l.word;
@@ -341,6 +352,8 @@ module _ {C E S : Type 0} (object : Object E) (primitive : C → Primitive E S) 
         called = called-by object v w _ es (saw-then object v u w _ _ es m.saw saw);
         was = subst (λ (z : Glimpse × List E). WasFound primitive (HasCell z.0) z.1 w) (λ i. (is i, entries_are i))
             l.looked.was;
+        heads = heads;
+        few_heads = l.looked.few_heads;
         facts_are = saw.facts_are;
       }
 

@@ -14,6 +14,8 @@ use Rattle.cqs_rule_laws.specs.declared.view.View.{View}
 use Rattle.cqs_rule_laws.specs.Exchanges.{HasCell}
 use Rattle.cqs_rule_laws.specs.Facts.{facts_worked}
 use Rattle.cqs_rule_laws.specs.Object.{Object, Primitive}
+use Rattle.cqs_rule_laws.specs.Settling.{settles_row}
+use Rattle.cqs_rule.specs.Counting.{counted_after}
 use Rattle.cqs_rule.specs.Owed.{OwesWith}
 use Rattle.cqs_rule.specs.Passes.{pass_view}
 use Rattle.cqs_rule_laws.specs.Placed.{KnowsPlace}
@@ -50,8 +52,8 @@ module _ {C E S : Type 0} (object : Object E) (primitive : C → Primitive E S) 
       let entries_are : object.entries s u.number k (payload_told row.gain payload u.facts.has.payload)
       ≡ object.entries s v.number k told = λ i. object.entries s (number i) k (told_same i) in
       let glimpse : Glimpse = record { number = k; state = row.finds; payload = payload } in
-      let now : Facts =
-      facts_worked object.gains row k m.word (payload_told row.gain payload u.facts.has.payload) m.before in
+      let now : Facts = counted_after (settles_row row) m.heads
+      (facts_worked object.gains row k m.word (payload_told row.gain payload u.facts.has.payload) m.before) in
       let few = m.few in
       record {
         word = l.word;
@@ -68,8 +70,10 @@ module _ {C E S : Type 0} (object : Object E) (primitive : C → Primitive E S) 
             (called-by object v u left first saw)
             (subst (λ (es : List E). Saw object u now es w) entries_are m.saw);
         was = subst (λ (es : List E). WasFound primitive (HasCell glimpse) es w) entries_are m.was;
-        facts_are = m.saw.facts_are
-            ∙ ((λ i. facts_worked object.gains row k m.word (told_same i) (m.before_is i))
+        heads = m.heads;
+        few_heads = m.few_heads;
+        facts_are = m.saw.facts_are ∙ ap (counted_after (settles_row row) m.heads)
+            ((λ i. facts_worked object.gains row k m.word (told_same i) (m.before_is i))
             ∙ (λ i. facts_worked object.gains row k m.word told (facts_tried m.found (is i))));
       }
 

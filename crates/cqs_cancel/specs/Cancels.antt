@@ -20,6 +20,8 @@ use Rattle.cqs_rule_laws.specs.Hidden.{Gains}
 use Rattle.cqs_rule_laws.specs.Layout.{client_place}
 use Rattle.cqs_rule_laws.specs.Lists.{IsPrefix}
 use Rattle.cqs_rule_laws.specs.Object.{Object, Primitive}
+use Rattle.cqs_rule_laws.specs.Settling.{settles_row}
+use Rattle.cqs_rule.specs.Counting.{counted_after}
 use Rattle.cqs_rule.specs.Owed.{OwesWith}
 use Rattle.cqs_rule.specs.Passes.{pass_view}
 use Rattle.cqs_rule_laws.specs.Saw.{WasFound, WasSo}
@@ -51,7 +53,8 @@ module _ {C E S : Type 0} (object : Object E) (primitive : C → Primitive E S) 
   -- the pass had seen before the call; the entries of the event come next. Then the cell was
   -- settled by a step of this row: it was found in the state that the row wants, with this payload,
   -- at the end of all that the pass has seen before the step's entries. At most one exchange before
-  -- it missed. The entries are those of the steps, in order, and the pass is where they lead.
+  -- it missed. The entries are those of the steps, in order, and the pass is where they lead. A
+  -- cell that the last step settled is counted, and by that at most one head was found.
   pub record Settled (first : List E) (facts : Facts) (word : ℕ) (event : Event E) (s : QueueStep)
       (row : CellRow)
       (answer : Bool) (k payload : ℕ) (v w : View E S) : Type 0 where
@@ -72,8 +75,11 @@ module _ {C E S : Type 0} (object : Object E) (primitive : C → Primitive E S) 
     pub was : WasFound primitive
         (HasCell (record { number = k; state = row.finds; payload = payload }))
         (object.entries s v.number k told) w
-    pub facts_are : w.facts ≡ facts_worked object.gains row k found told
-        (facts_tried tried (facts_moved event (client_place word) (asks_at v facts asked)))
+    pub heads : List (ℕ × ℕ)
+    pub few_heads : length heads ≤ 1
+    pub facts_are : w.facts ≡ counted_after (settles_row row) heads
+        (facts_worked object.gains row k found told
+        (facts_tried tried (facts_moved event (client_place word) (asks_at v facts asked))))
 
   abbrev pub SettledBy : StepRow → List E → Facts → ℕ → Event E → QueueStep → Bool → ℕ → ℕ
       → View E S → View E S
@@ -111,8 +117,8 @@ module _ {C E S : Type 0} (object : Object E) (primitive : C → Primitive E S) 
     pub ends : Leaves (object.entries starts_leaving v.number k v.facts.has.payload)
         (facts_leaving object.gains k word v.facts) asking k v left w
 
-  -- It was found served, by the only exchange, and so again by a load. The pass has what it waited
-  -- for.
+  -- It was found served, by the only exchange, and so again by a load, and its cell is counted. The
+  -- pass has what it waited for.
   pub record CameLate (k payload : ℕ) (v w : View E S) : Type 0 where
     pub word : ℕ
     pub cell : FoundCell word (served_glimpse k payload)
@@ -120,8 +126,11 @@ module _ {C E S : Type 0} (object : Object E) (primitive : C → Primitive E S) 
         (object.entries (looks late) v.number k payload) w
     pub was : WasFound primitive (HasCell (served_glimpse k payload))
         (object.entries (looks late) v.number k payload) w
-    pub facts_are : w.facts ≡ facts_after object.gains (row_of (looks late)) k word payload
-        (facts_tried (Cell k word ∷ []) v.facts)
+    pub heads : List (ℕ × ℕ)
+    pub few_heads : length heads ≤ 1
+    pub facts_are : w.facts ≡ counted_after true heads
+        (facts_after object.gains (row_of (looks late)) k word payload
+        (facts_tried (Cell k word ∷ []) v.facts))
 
   abbrev pub Cancels : Asking E → ℕ → View E S → Left → View E S → Type 0
   Cancels asking k v Gone w = Began asking k v Gone w

@@ -12,6 +12,8 @@ use Rattle.cqs_rule_laws.specs.Exchanges.{FoundCell, HasCell}
 use Rattle.cqs_rule_laws.specs.Facts.{facts_after, facts_worked}
 use Rattle.cqs_rule_laws.specs.Hidden.{Gains}
 use Rattle.cqs_rule_laws.specs.Object.{Object, Primitive}
+use Rattle.cqs_rule_laws.specs.Settling.{settles_row}
+use Rattle.cqs_rule.specs.Counting.{counted_after}
 use Rattle.cqs_rule.specs.Owed.{OwesWith}
 use Rattle.cqs_rule.specs.Passes.{pass_view}
 use Rattle.cqs_rule_laws.specs.Saw.{WasFound, WasSo}
@@ -33,7 +35,8 @@ module _ {C E S : Type 0} (object : Object E) (primitive : C → Primitive E S) 
   -- Then it was settled by a step of this row: it was found in the state that the row wants, with
   -- this payload, at the end of all that the pass has seen before the step's entries. At most one
   -- exchange between missed. The entries are those of the two steps, in order, and the pass is
-  -- where they lead.
+  -- where they lead. A cell that the last step settled is counted, and by that at most one head was
+  -- found.
   pub record Closed (s : QueueStep) (row : CellRow) (k payload : ℕ) (v w : View E S) : Type 0 where
     pub word : ℕ
     pub waiter : FoundCell word (waiting_glimpse k)
@@ -51,8 +54,11 @@ module _ {C E S : Type 0} (object : Object E) (primitive : C → Primitive E S) 
     pub was : WasFound primitive
         (HasCell (record { number = k; state = row.finds; payload = payload }))
         (object.entries s v.number k told) w
-    pub facts_are : w.facts ≡ facts_worked object.gains row k found told
-        (facts_tried tried (facts_left object.gains k word v.facts))
+    pub heads : List (ℕ × ℕ)
+    pub few_heads : length heads ≤ 1
+    pub facts_are : w.facts ≡ counted_after (settles_row row) heads
+        (facts_worked object.gains row k found told
+        (facts_tried tried (facts_left object.gains k word v.facts)))
 
   abbrev pub ClosedBy : StepRow → QueueStep → ℕ → ℕ → View E S → View E S → Type 0
   ClosedBy (at_counter row) s k payload v w = ⊥

@@ -1,5 +1,5 @@
 -- A look answers the cell that it found, or what was left there for a wait that was served.
-use Rattle.std.proofs.Common.{◌≡◌, ◌≢◌, ◌⊎◌, ℕ, ◌<◌, Option, Some, refl, sym, ap, ◌∙◌, subst, inl, inr, ⊎_elim}
+use Rattle.std.proofs.Common.{◌≡◌, ◌≢◌, ◌⊎◌, ℕ, ◌<◌, ◌≤◌, [], length, Option, Some, None, refl, sym, ap, ◌∙◌, subst, inl, inr, ⊎_elim}
 use Rattle.cqs_core.specs.declared.cells.CoreState.{CoreState}
 use Rattle.cqs_core.specs.declared.cells.CoreState.TheVariants as state
 use Rattle.cqs_core.specs.QueueStages as stage
@@ -11,30 +11,73 @@ use Rattle.cqs_words.specs.Cell.{payload_in, unpacked_cell}
 use Rattle.cqs_rule_laws.specs.declared.client.ClientWords.{Ghosts}
 use Rattle.cqs_rule_laws.specs.declared.config.Place.{Place}
 use Rattle.cqs_rule.specs.declared.queue.Pass.{Pass}
+use Rattle.cqs_core.specs.QueueSteps.{QueueStep, StepRow, at_counter, at_cell, row_of}
+use Rattle.cqs_rule_laws.specs.declared.view.Facts.{Facts}
+use Rattle.cqs_rule_laws.specs.declared.view.Glimpse.{Glimpse}
 use Rattle.cqs_rule_laws.specs.declared.view.View.{View}
-use Rattle.cqs_rule_laws.specs.Loads.{LoadStep, counts, watches, polls, cancels, meets, misses, MayLook, MayLoad, Looked, Watched, Loaded}
+use Rattle.cqs_rule_laws.specs.Facts.{facts_after}
+use Rattle.cqs_rule_laws.specs.Kinds.{change_by}
+use Rattle.cqs_rule_laws.specs.Settling.{duties_then, settles_row}
+use Rattle.cqs_rule_laws.specs.Loads.{LoadStep, counts, watches, polls, cancels, meets, misses, event_of, facts_looked, told_at, MayLook, MayLoad, Looked, Watched}
 use Rattle.cqs_rule_laws.specs.Object.{Object, Primitive}
 use Rattle.cqs_rule_laws.specs.Placed.{KnowsPlace}
 use Rattle.cqs_rule_laws.specs.Ruled.{shown_state}
+use Rattle.cqs_rule.specs.Counting.{Counted, LoadedThen}
 use Rattle.cqs_rule.specs.Passes.{pass_view}
+use Rattle.cqs_rule.proofs.Counting.{found-counted, one-head, saw-after}
 use Rattle.cqs_cell.specs.Found.{cell_found, Shows}
-use Rattle.cqs_cell.specs.Looks.{LooksAt, WatchesAt, HasLeft, HasLookedAtWord, HasPolled, IsGrant}
+use Rattle.cqs_cell.specs.Looks.{LookedThen, LooksAt, settles_event, WatchesAt, HasLeft, HasLookedAtWord, HasPolled, IsGrant}
 use Rattle.cqs_cell.proofs.Answered.{cell_shown, its-own, shows-found, tells-watched, unpacks-found, word-found}
 
 module _ {C E S : Type 0} (object : Object E) (primitive : C → Primitive E S) where
+  -- a load leaves one cell to count, or none
+  looked-duty : (event : Option QueueStep) (n : ℕ) (g : Glimpse) (f : Facts) → f.duties ≡ []
+      → (facts_looked object.gains event n g f).duties ≡ duties_then (settles_event event) g.number []
+  looked-duty None n g f none = none
+  looked-duty (Some s) n g f none = by (row_of s)
+    where
+      by : (row : StepRow) → (facts_after object.gains row g.number n (told_at row g.payload f) f).duties
+          ≡ duties_then (change_by row).settles g.number []
+      by (at_counter row) = none
+      by (at_cell row) = ap (duties_then (settles_row row) g.number) none
+
+  -- what is told of a load, after which the cell was counted if it was settled
+  looked-then : (load : LoadStep) (k n : ℕ) (v u w : View E S) → v.facts.duties ≡ []
+      → Looked object primitive load k v n u → Counted u w → LookedThen object primitive load k v n w
+  looked-then load k n v u w none l counted = record {
+    glimpse = l.glimpse;
+    number = l.number;
+    cell = l.cell;
+    may = l.may;
+    since = l.since;
+    heads = counted.heads;
+    few_heads = one-head u w counted (settles_event (event_of load l.glimpse.state)) l.glimpse.number
+        (ap (λ (f : Facts). f.duties) l.saw.facts_are
+        ∙ looked-duty (event_of load l.glimpse.state) n l.glimpse v.facts none);
+    saw = saw-after u w counted (settles_event (event_of load l.glimpse.state)) object v _ _
+        (λ stays. looked-duty (event_of load l.glimpse.state) n l.glimpse v.facts none
+        ∙ ap (λ b. duties_then b l.glimpse.number []) stays) l.saw;
+    was = found-counted u w counted primitive _ _ l.was;
+  }
+
   -- the load of its word tells of the cell
   pub looked-at : (load : LoadStep) (v w : View E S) (at : Place) (n : ℕ) → KnowsPlace v at → MayLook load v at.index
-      → Loaded object primitive load at.word v n w → Looked object primitive load at.index v n w
-  looked-at counts v w at n place may l = absurd may
-  looked-at watches v w at n place may l = absurd may
-  looked-at polls v w at n place may l = l at.index place may
-  looked-at cancels v w at n place may l = l at.index place may
-  looked-at meets v w at n place may l = l at.index place may
-  looked-at misses v w at n place may l = l at.index place may
+      → v.facts.duties ≡ [] → LoadedThen object primitive load at.word v n w
+      → LookedThen object primitive load at.index v n w
+  looked-at counts v w at n place may none l = absurd may
+  looked-at watches v w at n place may none l = absurd may
+  looked-at polls v w at n place may none l =
+      looked-then polls at.index n v l.0 w none (l.1 at.index place may) l.2
+  looked-at cancels v w at n place may none l =
+      looked-then cancels at.index n v l.0 w none (l.1 at.index place may) l.2
+  looked-at meets v w at n place may none l =
+      looked-then meets at.index n v l.0 w none (l.1 at.index place may) l.2
+  looked-at misses v w at n place may none l =
+      looked-then misses at.index n v l.0 w none (l.1 at.index place may) l.2
 
   -- and so does the cell that is answered
   looks-found : (load : LoadStep) (k : ℕ) (v : View E S) (n : ℕ) (w : View E S)
-      → Looked object primitive load k v n w → LooksAt object primitive load k v (cell_found k (unpacked_cell n)) w
+      → LookedThen object primitive load k v n w → LooksAt object primitive load k v (cell_found k (unpacked_cell n)) w
   looks-found load k v n w l = record {
     word = n;
     looked = l;
@@ -42,7 +85,7 @@ module _ {C E S : Type 0} (object : Object E) (primitive : C → Primitive E S) 
   }
 
   pub looks-at : (load : LoadStep) (k : ℕ) (v : View E S) (n : ℕ) (w : View E S) (cell : CellWord)
-      → cell ≡ cell_found k (unpacked_cell n) → Looked object primitive load k v n w
+      → cell ≡ cell_found k (unpacked_cell n) → LookedThen object primitive load k v n w
       → LooksAt object primitive load k v cell w
   looks-at load k v n w cell is l =
       subst (λ z. LooksAt object primitive load k v z w) (sym is) (looks-found load k v n w l)

@@ -26,6 +26,10 @@ use Rattle.cqs_rule_laws.specs.Saw.{Saw, WasFound}
 use Rattle.cqs_rule_laws.proofs.Calls.{saw-then}
 use Rattle.cqs_rule_laws.proofs.CellSteps.{word_of-injective}
 use Rattle.cqs_rule_laws.proofs.Drawing.{draws-cell, knows-still}
+use Rattle.cqs_rule_laws.specs.Settling.{duties_then, settles_row}
+use Rattle.cqs_rule.specs.Counting.{Counted, counted_after, ThenCounted}
+use Rattle.cqs_rule.proofs.Counting.{found-counted, one-head, saw-after}
+use Rattle.cqs_rule.proofs.Crossed.{stays-missed}
 use Rattle.cqs_rule.proofs.Places.{knows-saw}
 use Rattle.cqs_cell.specs.Crossings.{CrossesRow, CrossesBy, Crosses, IsSureBy, IsLastBy}
 use Rattle.cqs_cell.specs.Transitions.{facts_since, Made, Missed, MissedCell, MissedCellBy, MadeBy}
@@ -38,10 +42,10 @@ use Rattle.cqs_cell.proofs.Answered.{shows-found, number-found, word-found, word
 
 module _ {C E S : Type 0} (object : Object E) (primitive : C → Primitive E S) where
   -- an exchange that was made
-  made-row : (s : QueueStep) (row : CellRow) (at : Place) (payload expected new n : ℕ) (v w : View E S)
-      → CrossesRow row v at payload expected new → Crossed object primitive s row at.index expected v n w → n ≡ expected
-      → Made object primitive s row 0 at.index payload v w
-  made-row s row at payload expected new n v w x c same =
+  made-row : (s : QueueStep) (row : CellRow) (at : Place) (payload expected new n : ℕ) (v u w : View E S)
+      → CrossesRow row v at payload expected new → Crossed object primitive s row at.index expected v n u → n ≡ expected
+      → v.facts.duties ≡ [] → Counted u w → Made object primitive s row 0 at.index payload v w
+  made-row s row at payload expected new n v u w x c same none k =
       let word = word-of-number n c.found c.cell
       (ap index_in same ∙ (row-index v at payload expected new row x ∙ sym c.number)) in
       let is = word_of-injective c.found.number at.index c.found.state row.finds c.found.payload payload c.cell.fits
@@ -62,11 +66,17 @@ module _ {C E S : Type 0} (object : Object E) (primitive : C → Primitive E S) 
         few = omega arith;
         last = v.facts.last;
         before_is = λ i. record v.facts { found = sym (append-nil v.facts.found) i };
-        saw = subst (λ (z : ℕ × List E). Saw object v
-            (facts_worked object.gains row at.index n (payload_told row.gain z.0 v.facts.has.payload) v.facts) z.1 w)
-            (λ i. (is.2 i, entries_are i)) m.0;
-        was = subst (λ (z : Glimpse × List E). WasFound primitive (HasCell z.0) z.1 w)
-            (λ i. (g i, entries_are i)) c.was;
+        heads = k.heads;
+        few_heads = one-head u w k (settles_row row) at.index
+            (ap (λ (f : Facts). f.duties) m.0.facts_are ∙ ap (duties_then (settles_row row) at.index) none);
+        saw = saw-after u w k (settles_row row) object v _ _
+            (λ stays. ap (λ b. duties_then b at.index v.facts.duties) stays ∙ none)
+            (subst (λ (z : ℕ × List E). Saw object v
+            (facts_worked object.gains row at.index n (payload_told row.gain z.0 v.facts.has.payload) v.facts) z.1 u)
+            (λ i. (is.2 i, entries_are i)) m.0);
+        was = found-counted u w k primitive _ _
+            (subst (λ (z : Glimpse × List E). WasFound primitive (HasCell z.0) z.1 u)
+            (λ i. (g i, entries_are i)) c.was);
       }
 
   -- one that wasn't
@@ -110,25 +120,29 @@ module _ {C E S : Type 0} (object : Object E) (primitive : C → Primitive E S) 
 
   -- the same of a step by its name
   pub made-by : (s : QueueStep) (at : Place) (payload expected new n : ℕ) (v w : View E S)
-      → Crosses s v at payload expected new → CrossedBy object primitive s (row_of s) (index_in expected) expected v n w
-      → n ≡ expected
-      → MadeBy object primitive s (row_of s) 0 at.index payload v w
-  made-by s at payload expected new n v w x c same = by (row_of s) x c
+      → Crosses s v at payload expected new
+      → (t : ThenCounted (CrossedBy object primitive s (row_of s) (index_in expected) expected v n) w)
+      → n ≡ expected → v.facts.duties ≡ [] → MadeBy object primitive s (row_of s) 0 at.index payload v w
+  made-by s at payload expected new n v w x t same none = by (row_of s) x t.1
     where
       by : (row : StepRow) → CrossesBy row v at payload expected new
-          → CrossedBy object primitive s row (index_in expected) expected v n w
+          → CrossedBy object primitive s row (index_in expected) expected v n t.0
           → MadeBy object primitive s row 0 at.index payload v w
       by (at_counter row) x c = absurd x
       by (at_cell row) x c =
-          made-row s row at payload expected new n v w x
-          (subst (λ k. Crossed object primitive s row k expected v n w) (row-index v at payload expected new row x) c)
-          same
+          made-row s row at payload expected new n v t.0 w x
+          (subst (λ k. Crossed object primitive s row k expected v n t.0) (row-index v at payload expected new row x) c)
+          same none t.2
 
   pub missed-by : (s : QueueStep) (at : Place) (payload expected new n : ℕ) (v w : View E S)
-      → Crosses s v at payload expected new → CrossedBy object primitive s (row_of s) (index_in expected) expected v n w
-      → n ≢ expected
+      → Crosses s v at payload expected new
+      → (t : ThenCounted (CrossedBy object primitive s (row_of s) (index_in expected) expected v n) w)
+      → n ≢ expected → v.facts.duties ≡ []
       → MissedCellBy object primitive (row_of s) at.index payload v (cell_found at.index (unpacked_cell n)) w
-  missed-by s at payload expected new n v w x c apart = by (row_of s) (rows s) x c
+  missed-by s at payload expected new n v w x t apart none = by (row_of s) (rows s) x
+      (subst (λ z. CrossedBy object primitive s (row_of s) (index_in expected) expected v n z)
+      (sym (t.2.none ((stays-missed object primitive s (row_of s) (index_in expected) expected v n t.0 t.1 apart).duties
+      ∙ none))) t.1)
     where
       by : (row : StepRow) → IsRow row → CrossesBy row v at payload expected new
           → CrossedBy object primitive s row (index_in expected) expected v n w
@@ -184,9 +198,11 @@ module _ {C E S : Type 0} (object : Object E) (primitive : C → Primitive E S) 
         few = omega arith;
         last = d.last;
         before_is = before_is;
+        heads = d.heads;
+        few_heads = d.few_heads;
         saw = saw-then object v u w first _ _ m.saw
-            (subst (λ (z : ℕ × List E). Saw object u
-            (facts_worked object.gains row' k d.word (payload_told row'.gain payload z.0) d.before) z.1 w)
+            (subst (λ (z : ℕ × List E). Saw object u (counted_after (settles_row row') d.heads
+            (facts_worked object.gains row' k d.word (payload_told row'.gain payload z.0) d.before)) z.1 w)
             (λ i. (ap (λ (f : Facts). f.has.payload) m.saw.facts_are i, entries_are i)) d.saw);
         was = subst (λ z. WasFound primitive (HasCell (record { number = k; state = row'.finds; payload = payload })) z
             w) entries_are d.was;

@@ -21,8 +21,9 @@ use Rattle.cqs_rule_laws.specs.Ruled.{shown_state}
 use Rattle.cqs_rule_laws.specs.Saw.{Saw, WasFound}
 use Rattle.cqs_rule_laws.proofs.CellSteps.{shown-injective}
 use Rattle.cqs_rule_laws.proofs.Calls.{called-by}
+use Rattle.cqs_rule.specs.Counting.{counted_after}
 use Rattle.cqs_cell.proofs.Answered.{number-found}
-use Rattle.cqs_cell.specs.Looks.{LooksAt}
+use Rattle.cqs_cell.specs.Looks.{LooksAt, settles_event}
 
 module _ {C E S : Type 0} (object : Object E) (primitive : C → Primitive E S) where
   -- the entries of a look at a cell that is found so
@@ -33,7 +34,9 @@ module _ {C E S : Type 0} (object : Object E) (primitive : C → Primitive E S) 
   pub record FoundSo (at : CoreState) (k payload : ℕ) (v w : View E S) : Type 0 where
     pub word : ℕ
     pub cell : FoundCell word (cell_of k at payload)
-    pub saw : Saw object v (facts_looked object.gains (event_of polls at) word (cell_of k at payload) v.facts)
+    pub heads : List (ℕ × ℕ)
+    pub saw : Saw object v (counted_after (settles_event (event_of polls at)) heads
+        (facts_looked object.gains (event_of polls at) word (cell_of k at payload) v.facts))
         (poll_entries (cell_of k at payload) v) w
     pub was : WasFound primitive (HasCell (cell_of k at payload)) (poll_entries (cell_of k at payload) v) w
 
@@ -50,8 +53,10 @@ module _ {C E S : Type 0} (object : Object E) (primitive : C → Primitive E S) 
       record {
         word = l.word;
         cell = subst (FoundCell l.word) same l.looked.cell;
+        heads = l.looked.heads;
         saw = subst (λ (z : Glimpse). Saw object v
-            (facts_looked object.gains (event_of polls z.state) l.word z v.facts) (poll_entries z v) w) same
+            (counted_after (settles_event (event_of polls z.state)) l.looked.heads
+            (facts_looked object.gains (event_of polls z.state) l.word z v.facts)) (poll_entries z v) w) same
             l.looked.saw;
         was = subst (λ (z : Glimpse). WasFound primitive (HasCell z) (poll_entries z v) w) same l.looked.was;
       }

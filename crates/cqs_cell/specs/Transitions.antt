@@ -20,6 +20,8 @@ use Rattle.cqs_rule.specs.Passes.{pass_view}
 use Rattle.cqs_cell.specs.Found.{cell_found}
 use Rattle.cqs_rule_laws.specs.Ruled.{shown_state}
 use Rattle.cqs_rule_laws.specs.Saw.{Saw, WasFound}
+use Rattle.cqs_rule_laws.specs.Settling.{settles_row}
+use Rattle.cqs_rule.specs.Counting.{counted_after}
 
 -- a pass at these facts, with these found besides, and another glimpse
 abbrev pub facts_since : List Sighting → Option Glimpse → Facts → Facts
@@ -28,7 +30,8 @@ facts_since found last f = record f { last = last; found = found }
 module _ {C E S : Type 0} (object : Object E) (primitive : C → Primitive E S) where
   -- A step of this row was made at the cell of the number k: it found the cell in the state that
   -- the row wants, with this payload. The step's entries are the only ones, and the pass is where
-  -- the row leads. Before the step it may have tried in vain, and found these. A pass that is alone
+  -- the row leads. Before the step it may have tried in vain, and found these. Where the step
+  -- settled the cell, that is counted, and by that at most one head was found. A pass that is alone
   -- knows by what was drawn that the cell was to be found so.
   pub record Made (s : QueueStep) (row : CellRow) (tried : ℕ) (k payload : ℕ) (v w : View E S)
       : Type 0 where
@@ -40,9 +43,11 @@ module _ {C E S : Type 0} (object : Object E) (primitive : C → Primitive E S) 
     pub few : length found ≤ tried
     pub last : Option Glimpse
     pub before_is : before ≡ facts_since (v.facts.found ++ found) last v.facts
+    pub heads : List (ℕ × ℕ)
+    pub few_heads : length heads ≤ 1
     pub saw : Saw object v
-        (facts_worked object.gains row k word (payload_told row.gain payload v.facts.has.payload)
-        before)
+        (counted_after (settles_row row) heads (facts_worked object.gains row k word
+        (payload_told row.gain payload v.facts.has.payload) before))
         (object.entries s v.number k (payload_told row.gain payload v.facts.has.payload)) w
     pub was : WasFound primitive
         (HasCell (record { number = k; state = row.finds; payload = payload }))

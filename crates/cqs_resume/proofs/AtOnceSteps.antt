@@ -21,9 +21,11 @@ use Rattle.cqs_rule_laws.specs.Object.{Object, Primitive}
 use Rattle.cqs_rule_laws.specs.Ruled.{shown_state}
 use Rattle.cqs_rule_laws.specs.Saw.{Saw, WasFound}
 use Rattle.cqs_rule_laws.proofs.CellSteps.{shown-injective}
-use Rattle.cqs_cell.specs.Looks.{LooksAt}
+use Rattle.cqs_rule_laws.specs.Kinds.{change_by}
+use Rattle.cqs_rule.specs.Counting.{counted_after}
+use Rattle.cqs_cell.specs.Looks.{LooksAt, settles_event}
 use Rattle.cqs_resume.specs.AtOnce.{IsPlain, ShowsPlain}
-use Rattle.cqs_rule_laws.specs.Settling.{duties_then}
+use Rattle.cqs_rule_laws.specs.Settling.{duties_then, settles_row}
 use Rattle.cqs_resume.specs.Meets.{cell_of}
 use Rattle.cqs_resume.proofs.OneNumber.{Tried, Worked, WorkedBy, IsEndBy, idles}
 
@@ -99,11 +101,16 @@ module _ {C E S : Type 0} (object : Object E) (primitive : C → Primitive E S) 
       let event : event_of misses g.state ≡ Some ends_missed = ap (event_of misses) finds ∙ shows in
       let told = payload_told row.gain g.payload u.facts.has.payload in
       let here : g ≡ cell_of k row.finds g.payload = λ i. cell_of (l.looked.number i) (finds i) g.payload in
-      let facts : facts_looked object.gains (event_of misses g.state) l.word g u.facts
-      ≡ facts_worked object.gains row k l.word told u.facts =
-      ap (λ (z : Option QueueStep). facts_looked object.gains z l.word g u.facts) event
-      ∙ (ap (λ (z : StepRow). facts_after object.gains z g.number l.word (told_at z g.payload u.facts) u.facts) is
-      ∙ ap (λ z. facts_worked object.gains row z l.word told u.facts) l.looked.number) in
+      let heads = l.looked.heads in
+      let facts : counted_after (settles_event (event_of misses g.state)) heads
+      (facts_looked object.gains (event_of misses g.state) l.word g u.facts)
+      ≡ counted_after (settles_row row) heads (facts_worked object.gains row k l.word told u.facts) =
+      ap (λ (z : Option QueueStep). counted_after (settles_event z) heads
+      (facts_looked object.gains z l.word g u.facts)) event
+      ∙ (ap (λ (z : StepRow). counted_after (change_by z).settles heads
+      (facts_after object.gains z g.number l.word (told_at z g.payload u.facts) u.facts)) is
+      ∙ ap (λ z. counted_after (settles_row row) heads (facts_worked object.gains row z l.word told u.facts))
+      l.looked.number) in
       let entries : look_entries object primitive (event_of misses g.state) u.number g u.facts
       ≡ object.entries ends_missed u.number k told =
       ap (λ (z : Option QueueStep). look_entries object primitive z u.number g u.facts) event
@@ -113,6 +120,8 @@ module _ {C E S : Type 0} (object : Object E) (primitive : C → Primitive E S) 
         word = l.word;
         left = g.payload;
         cell = subst (FoundCell l.word) here l.looked.cell;
+        counted = heads;
+        few_counted = l.looked.few_heads;
         saw = subst (λ (z : Facts × List E). Saw object u z.0 z.1 w) (λ i. (facts i, entries i)) l.looked.saw;
         was = subst (λ (z : Glimpse × List E). WasFound primitive (HasCell z.0) z.1 w)
             (λ i. (here i, entries i)) l.looked.was;

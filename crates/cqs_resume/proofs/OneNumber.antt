@@ -31,11 +31,13 @@ use Rattle.cqs_rule_laws.specs.Saw.{Saw, WasFound}
 use Rattle.cqs_rule_laws.proofs.Calls.{saw-then}
 use Rattle.cqs_rule_laws.proofs.CellSteps.{shown-injective}
 use Rattle.cqs_rule.proofs.Places.{knows-saw}
-use Rattle.cqs_cell.specs.Looks.{LooksAt}
+use Rattle.cqs_rule.specs.Counting.{counted_after}
+use Rattle.cqs_cell.specs.Looks.{LooksAt, settles_event}
 use Rattle.cqs_cell.specs.Transitions.{facts_since, Made, MadeBy, Missed}
 use Rattle.cqs_find.specs.Finds.{longest_search, facts_searched, Searched}
 use Rattle.cqs_rule_laws.specs.Settling.{duties_then, settles_row}
-use Rattle.cqs_resume.specs.Counting.{duties_by}
+use Rattle.cqs_rule_laws.specs.Kinds.{change_by}
+use Rattle.cqs_resume.specs.Counting.{duties_by, settles_at}
 use Rattle.cqs_resume.specs.Meets.{facts_met, cell_of, Met}
 
 -- a pass at these facts that found these words and heads besides, and another glimpse
@@ -284,8 +286,10 @@ module _ {C E S : Type 0} (object : Object E) (primitive : C → Primitive E S) 
     pub word : ℕ
     pub left : ℕ
     pub cell : FoundCell word (cell_of k row.finds left)
-    pub saw : Saw object u (facts_worked object.gains row k word
-        (payload_told row.gain left u.facts.has.payload) u.facts)
+    pub counted : List (ℕ × ℕ)
+    pub few_counted : length counted ≤ 1
+    pub saw : Saw object u (counted_after (settles_row row) counted (facts_worked object.gains row k word
+        (payload_told row.gain left u.facts.has.payload) u.facts))
         (object.entries s u.number k (payload_told row.gain left u.facts.has.payload)) w
     pub was : WasFound primitive (HasCell (cell_of k row.finds left))
         (object.entries s u.number k (payload_told row.gain left u.facts.has.payload)) w
@@ -314,7 +318,10 @@ module _ {C E S : Type 0} (object : Object E) (primitive : C → Primitive E S) 
         word = m.word;
         left = left;
         cell = m.cell;
-        saw = subst (λ (z : Facts). Saw object u z (object.entries s u.number k told) w) is m.saw;
+        counted = m.heads;
+        few_counted = m.few_heads;
+        saw = subst (λ (z : Facts). Saw object u z (object.entries s u.number k told) w)
+            (ap (counted_after (settles_row row) m.heads) is) m.saw;
         was = m.was;
       }
     where
@@ -340,11 +347,16 @@ module _ {C E S : Type 0} (object : Object E) (primitive : C → Primitive E S) 
       let event : event_of meets g.state ≡ Some s = ap (event_of meets) finds ∙ shows in
       let told = payload_told row.gain g.payload u.facts.has.payload in
       let here : g ≡ cell_of k row.finds g.payload = λ i. cell_of (l.looked.number i) (finds i) g.payload in
-      let facts : facts_looked object.gains (event_of meets g.state) l.word g u.facts
-      ≡ facts_worked object.gains row k l.word told u.facts =
-      ap (λ (z : Option QueueStep). facts_looked object.gains z l.word g u.facts) event
-      ∙ (ap (λ (z : StepRow). facts_after object.gains z g.number l.word (told_at z g.payload u.facts) u.facts) is
-      ∙ ap (λ z. facts_worked object.gains row z l.word told u.facts) l.looked.number) in
+      let heads = l.looked.heads in
+      let facts : counted_after (settles_event (event_of meets g.state)) heads
+      (facts_looked object.gains (event_of meets g.state) l.word g u.facts)
+      ≡ counted_after (settles_row row) heads (facts_worked object.gains row k l.word told u.facts) =
+      ap (λ (z : Option QueueStep). counted_after (settles_event z) heads
+      (facts_looked object.gains z l.word g u.facts)) event
+      ∙ (ap (λ (z : StepRow). counted_after (change_by z).settles heads
+      (facts_after object.gains z g.number l.word (told_at z g.payload u.facts) u.facts)) is
+      ∙ ap (λ z. counted_after (settles_row row) heads (facts_worked object.gains row z l.word told u.facts))
+      l.looked.number) in
       let entries : look_entries object primitive (event_of meets g.state) u.number g u.facts
       ≡ object.entries s u.number k told =
       ap (λ (z : Option QueueStep). look_entries object primitive z u.number g u.facts) event
@@ -354,6 +366,8 @@ module _ {C E S : Type 0} (object : Object E) (primitive : C → Primitive E S) 
         word = l.word;
         left = g.payload;
         cell = subst (FoundCell l.word) here l.looked.cell;
+        counted = heads;
+        few_counted = l.looked.few_heads;
         saw = subst (λ (z : Facts × List E). Saw object u z.0 z.1 w) (λ i. (facts i, entries i)) l.looked.saw;
         was = subst (λ (z : Glimpse × List E). WasFound primitive (HasCell z.0) z.1 w)
             (λ i. (here i, entries i)) l.looked.was;
@@ -405,9 +419,11 @@ module _ {C E S : Type 0} (object : Object E) (primitive : C → Primitive E S) 
       let entries : object.entries s u.number k (payload_told row.gain d.left u.facts.has.payload)
       ≡ object.entries s v.number k payload =
       λ i. object.entries s (way.saw.same.number i) k (told i) in
-      let facts : facts_worked object.gains row k d.word (payload_told row.gain d.left u.facts.has.payload) u.facts
-      ≡ facts_met s k at over (way.found ++ here) way.heads f =
-      ends.facts d.word (payload_told row.gain d.left u.facts.has.payload) u.facts
+      let facts : counted_after (settles_row row) d.counted
+      (facts_worked object.gains row k d.word (payload_told row.gain d.left u.facts.has.payload) u.facts)
+      ≡ counted_after (settles_at s) d.counted (facts_met s k at over (way.found ++ here) way.heads f) =
+      ap (counted_after (settles_row row) d.counted)
+      (ends.facts d.word (payload_told row.gain d.left u.facts.has.payload) u.facts
       ∙ ((λ i. record (u_is i) {
         doing = at;
         last = None;
@@ -418,7 +434,9 @@ module _ {C E S : Type 0} (object : Object E) (primitive : C → Primitive E S) 
       ∙ (λ i. record (facts_met s k at over (way.found ++ here) way.heads f) {
         duties = duties_by (sym is i) k f.duties;
         found = append_assoc f.found way.found here i;
-      })) in
+      })))
+      ∙ ap (λ (z : StepRow). counted_after (change_by z).settles d.counted
+      (facts_met s k at over (way.found ++ here) way.heads f)) (sym is) in
       let few = way.few in
       record {
         tried = way.found;
@@ -428,6 +446,8 @@ module _ {C E S : Type 0} (object : Object E) (primitive : C → Primitive E S) 
         word = d.word;
         left = d.left;
         cell = subst (λ z. FoundCell d.word (cell_of k z d.left)) ends.finds d.cell;
+        counted = d.counted;
+        few_counted = d.few_counted;
         saw = subst (λ (z : Facts × List E). Saw object v z.0 z.1 w) (λ i. (facts i, entries i))
             (saw-then object v u w _ _ _ way.saw d.saw);
         was = subst (λ (z : CoreState × List E). WasFound primitive (HasCell (cell_of k z.0 d.left)) z.1 w)

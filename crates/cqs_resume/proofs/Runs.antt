@@ -1,5 +1,5 @@
 -- A resume is its rounds, one number after the other.
-use Rattle.std.proofs.Common.{◌≡◌, ℕ, ◌+◌, ◌<◌, ◌≤◌, Bool, true, false, List, [], ◌∷◌, ◌++◌, Option, Some, None, sym, refl, ap, ◌∙◌, subst, inl, inr, ⊎_elim, append_assoc, if◌then◌else◌, arith}
+use Rattle.std.proofs.Common.{◌≡◌, ℕ, ◌+◌, ◌<◌, ◌≤◌, Bool, true, false, List, [], ◌∷◌, ◌++◌, length, Option, Some, None, sym, refl, ap, ◌∙◌, subst, inl, inr, ⊎_elim, append_assoc, if◌then◌else◌, arith}
 use Rattle.std.proofs.lemmas.List.{append-nil}
 use Rattle.cqs_core.specs.declared.cells.CoreState.{CoreState}
 use Rattle.cqs_core.specs.declared.cells.CoreState.TheVariants as state
@@ -27,7 +27,8 @@ use Rattle.cqs_rule_laws.proofs.Lists.{has_left, has_right}
 use Rattle.cqs_resume.specs.declared.resumed.Resumed.{Resumed}
 use Rattle.cqs_resume.specs.declared.resumed.Resumed.TheVariants.{Served, Left, Refused, Under}
 use Rattle.cqs_resume.specs.Rounds.{Round, cell_in, IsFoundIn, IsOpenedWith, AreDrawn, numbers, one_if, round_seen, all_seen, all_heads, facts_after_rounds, round_entries, over_entries}
-use Rattle.cqs_resume.specs.Counting.{duties_after}
+use Rattle.cqs_rule.specs.Counting.{counted_after}
+use Rattle.cqs_resume.specs.Counting.{duties_after, settles_at}
 use Rattle.cqs_resume.specs.Meets.{facts_met, cell_of, Met, Meets}
 use Rattle.cqs_resume.specs.Resumes.{WasSo, IsOver, Ended, Stopped, Resumes, IsFurther}
 
@@ -82,7 +83,9 @@ module _ {C E S : Type 0} (object : Object E) (primitive : C → Primitive E S) 
     pub found : IsFoundIn state round
     pub was : WasFound primitive (HasCell (cell_in state round)) (object.entries s v.number k payload) w
     pub called : Called object v (round_entries object v.number payload s round) (object.entries s v.number k payload) w
-    pub facts_are : w.facts ≡ facts_round s k at over round v.facts
+    pub counted : List (ℕ × ℕ)
+    pub few_counted : length counted ≤ 1
+    pub facts_are : w.facts ≡ counted_after (settles_at s) counted (facts_round s k at over round v.facts)
 
   -- the number was drawn, and then met
   pub went-drawn : (s : QueueStep) (state : CoreState) (at : Doing) (over : List ℕ) (payload k : ℕ) (v x w : View E S)
@@ -119,7 +122,10 @@ module _ {C E S : Type 0} (object : Object E) (primitive : C → Primitive E S) 
         was = subst (λ (z : List E). WasFound primitive (HasCell (cell_of k state m.left)) z w) last m.was;
         called = subst (λ (z : ℕ × List E). Called object v (object.entries reaches v.number k z.0 ++ z.1) z.1 w)
             (λ i. (owed i, last i)) called;
-        facts_are = m.saw.facts_are ∙ ((λ i. facts_met s k at over seen m.heads (x_is i))
+        counted = m.counted;
+        few_counted = m.few_counted;
+        facts_are = m.saw.facts_are ∙ ap (counted_after (settles_at s) m.counted)
+            ((λ i. facts_met s k at over seen m.heads (x_is i))
             ∙ (λ i. record (facts_met s k at over seen m.heads drawn) {
               found =
                   append_assoc f.found (Word resumes_place k ∷ []) seen i;
@@ -143,6 +149,8 @@ module _ {C E S : Type 0} (object : Object E) (primitive : C → Primitive E S) 
     found = record { cell = m.cell; few = m.few; few_heads = m.few_heads };
     was = m.was;
     called = called-by object v w _ _ m.saw;
+    counted = m.counted;
+    few_counted = m.few_counted;
     facts_are = m.saw.facts_are;
   }
 
@@ -174,7 +182,9 @@ module _ {C E S : Type 0} (object : Object E) (primitive : C → Primitive E S) 
     found = t.found;
     was = t.was;
     called = t.called;
-    facts_are = t.facts_are ∙ facts-one s k doing.Idle [] t.round v.facts;
+    counted = t.counted;
+    few_counted = t.few_counted;
+    facts_are = t.facts_are ∙ ap (counted_after (settles_at s) t.counted) (facts-one s k doing.Idle [] t.round v.facts);
     reached = never-falls drawn s state doing.Idle [] payload k v w t next;
   }
     where
@@ -237,7 +247,10 @@ module _ {C E S : Type 0} (object : Object E) (primitive : C → Primitive E S) 
               number i,
             ))
             (called-and object v u w first _ (own u.number ++ end u.number) _ t.called e.called);
-        facts_are = e.facts_are ∙ (ap (facts_after_rounds s k doing.Idle (numbers e.over) rest) t.facts_are
+        counted = e.counted;
+        few_counted = e.few_counted;
+        facts_are = e.facts_are ∙ ap (counted_after (settles_at s) e.counted)
+            (ap (facts_after_rounds s k doing.Idle (numbers e.over) rest) t.facts_are
             ∙ facts-then s k doing.Idle (numbers e.over) rest t.round j v.facts t.number);
         reached =
             let first = never-falls drawn passes_over state.Cancelled doing.Owes (j ∷ []) payload j v u t next in

@@ -17,7 +17,8 @@ use Rattle.cqs_rule_laws.specs.Object.{Object, Primitive}
 use Rattle.cqs_rule.specs.Passes.{pass_view}
 use Rattle.cqs_rule_laws.specs.Saw.{Saw, WasFound}
 use Rattle.cqs_find.specs.Finds.{longest_search}
-use Rattle.cqs_resume.specs.Counting.{duties_after}
+use Rattle.cqs_rule.specs.Counting.{counted_after}
+use Rattle.cqs_resume.specs.Counting.{duties_after, settles_at}
 use Rattle.cqs_resume.specs.declared.resumed.Resumed.{Resumed}
 use Rattle.cqs_resume.specs.declared.resumed.Resumed.TheVariants.{Served, Left, Refused, Under}
 
@@ -39,7 +40,8 @@ cell_of k state payload = record { number = k; state = state; payload = payload 
 
 module _ {C E S : Type 0} (object : Object E) (primitive : C → Primitive E S) where
   -- The step s was made at the cell of the number k, which it found in this state, after a search
-  -- for it and at most four exchanges that weren't made.
+  -- for it and at most four exchanges that weren't made. If it settled the cell, that is counted,
+  -- and by that at most one head was found.
   pub record Met (s : QueueStep) (state : CoreState) (at : Doing) (over : List ℕ) (payload k : ℕ)
       (v w : View E S) : Type 0 where
     pub tried : List Sighting
@@ -49,7 +51,10 @@ module _ {C E S : Type 0} (object : Object E) (primitive : C → Primitive E S) 
     pub word : ℕ
     pub left : ℕ
     pub cell : FoundCell word (cell_of k state left)
-    pub saw : Saw object v (facts_met s k at over (tried ++ Cell k word ∷ []) heads v.facts)
+    pub counted : List (ℕ × ℕ)
+    pub few_counted : length counted ≤ 1
+    pub saw : Saw object v (counted_after (settles_at s) counted
+        (facts_met s k at over (tried ++ Cell k word ∷ []) heads v.facts))
         (object.entries s v.number k payload) w
     pub was : WasFound primitive (HasCell (cell_of k state left))
         (object.entries s v.number k payload) w

@@ -1,5 +1,5 @@
 -- What a resume answers: exactly the state in which its last cell was found.
-use Rattle.std.specs.Prelude.{◌≡◌, ◌⊎◌, ℕ, ◌<◌, ◌≤◌, List, [], ◌∷◌, ◌++◌, Option, None}
+use Rattle.std.specs.Prelude.{◌≡◌, ◌⊎◌, ℕ, ◌<◌, ◌≤◌, List, [], ◌∷◌, ◌++◌, length, Option, None}
 use Rattle.cqs_core.specs.declared.cells.CoreState.{CoreState}
 use Rattle.cqs_core.specs.declared.cells.CoreState.TheVariants as state
 use Rattle.cqs_core.specs.declared.doings.Doing.TheVariants as doing
@@ -19,6 +19,8 @@ use Rattle.cqs_rule.specs.Passes.{pass_view}
 use Rattle.cqs_rule_laws.specs.Saw.{WasShown, WasFound}
 use Rattle.cqs_resume.specs.declared.resumed.Resumed.{Resumed}
 use Rattle.cqs_resume.specs.declared.resumed.Resumed.TheVariants.{Served, Left, Refused, Under}
+use Rattle.cqs_rule.specs.Counting.{counted_after}
+use Rattle.cqs_resume.specs.Counting.{settles_at}
 use Rattle.cqs_resume.specs.Rounds.{Round, cell_in, IsFoundIn, IsOpenedWith, numbers, drawn_in, facts_after_rounds, round_entries, over_entries}
 
 -- how many numbers one call passes over before it hands the resumption back
@@ -47,8 +49,9 @@ module _ {C E S : Type 0} (primitive : C → Primitive E S) where
 
 module _ {C E S : Type 0} (object : Object E) (primitive : C → Primitive E S) where
   -- The resume ended at the number k, by this step on its cell, which it found in this state. It
-  -- passed over the numbers before, fewer than `most` of which it drew. The pass is idle, and holds
-  -- and waits for what it did before. The last number that it drew comes after those that it drew
+  -- passed over the numbers before, fewer than `most` of which it drew. If the step settled the
+  -- cell, that is counted, and by that at most one head was found. The pass is idle, and holds and
+  -- waits for what it did before. The last number that it drew comes after those that it drew
   -- earlier, or is the last of them.
   pub record Ended (s : QueueStep) (state : CoreState) (most : ℕ) (ticket : Option ℕ)
       (payload k : ℕ)
@@ -66,8 +69,10 @@ module _ {C E S : Type 0} (object : Object E) (primitive : C → Primitive E S) 
         (over_entries object v.number payload over ++ round_entries object v.number payload s
         last)
         (object.entries s v.number k payload) w
-    pub facts_are : w.facts
-        ≡ facts_after_rounds s k doing.Idle (numbers over) (over ++ last ∷ []) v.facts
+    pub counted : List (ℕ × ℕ)
+    pub few_counted : length counted ≤ 1
+    pub facts_are : w.facts ≡ counted_after (settles_at s) counted
+        (facts_after_rounds s k doing.Idle (numbers over) (over ++ last ∷ []) v.facts)
     pub reached : v.facts.reached ≤ w.facts.reached
 
   -- It drew `most` numbers and passed over each of them. The pass still owes the resumption, and

@@ -17,6 +17,8 @@ pub record Stays {E S : Type 0} (v w : View E S) : Type 0 where
   pub waits : w.facts.waits ≡ v.facts.waits
   pub open_slot : w.facts.open_slot ≡ v.facts.open_slot
   pub spare_slots : w.facts.spare_slots ≡ v.facts.spare_slots
+  pub duties : w.facts.duties ≡ v.facts.duties
+  pub to_retire : w.facts.to_retire ≡ v.facts.to_retire
 
 module _ {C E S : Type 0} (object : Object E) (primitive : C → Primitive E S) where
   pub same-made : (s : QueueStep) (row : StepRow) (k expected : ℕ) (v : View E S) (n : ℕ) (w : View E S)
@@ -46,5 +48,7 @@ module _ {C E S : Type 0} (object : Object E) (primitive : C → Primitive E S) 
         waits = ap (λ (f : Facts). f.waits) saw.facts_are;
         open_slot = ap (λ (f : Facts). f.open_slot) saw.facts_are;
         spare_slots = ap (λ (f : Facts). f.spare_slots) saw.facts_are;
+        duties = ap (λ (f : Facts). f.duties) saw.facts_are;
+        to_retire = ap (λ (f : Facts). f.to_retire) saw.facts_are;
       }
   stays-missed s (at_counter row) k expected v n w crossed other = absurd crossed

@@ -69,6 +69,8 @@ module _ {C S E : Type 0} {g : Ghosts C S E} where
             (ap (λ (f : Facts). f.spare_slots) are
             ∙ (ap (λ l. (pass_view p).facts.spare_slots ++ l) spareless ∙ append-nil _))
             m.cells p.spares_are;
+        counted = ap (λ (f : Facts). f.duties) are ∙ (λ i. p.counted i ++ given.counted i);
+        retired = ap (λ (f : Facts). f.to_retire) are ∙ (λ i. p.retired i ++ given.retired i);
         shut = ap (λ (f : Facts). f.open_slot) are ∙ p.shut;
         owes_is = ap (λ (f : Facts). is_owing f.doing) are ∙ p.owes_is;
         waits_are = ap (λ (f : Facts). length f.waits) are ∙ p.waits_are;

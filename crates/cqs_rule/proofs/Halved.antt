@@ -49,6 +49,8 @@ module _ {C S E : Type 0} {g : Ghosts C S E} where
         held_is = ap (λ (f : Facts). f.has.held) l.facts ∙ (lessened-held gives has ∙ ap (λ n. n - gives) p.held_is);
         further_is = ap (λ (f : Facts). f.has.further) l.facts ∙ (lessened-further gives has ∙ p.further_is);
         spares_are = same-spares _ _ _ _ p.spares (ap (λ (f : Facts). f.spare_slots) l.facts) l.cells p.spares_are;
+        counted = ap (λ (f : Facts). f.duties) l.facts ∙ p.counted;
+        retired = ap (λ (f : Facts). f.to_retire) l.facts ∙ p.retired;
         shut = ap (λ (f : Facts). f.open_slot) l.facts ∙ p.shut;
         owes_is = ap (λ (f : Facts). is_owing f.doing) l.facts ∙ p.owes_is;
         waits_are = ap (λ (f : Facts). length f.waits) l.facts ∙ p.waits_are;
@@ -69,6 +71,8 @@ module _ {C S E : Type 0} {g : Ghosts C S E} where
         held_is = ap (λ (f : Facts). f.has.held) facts;
         further_is = ap (λ (f : Facts). f.has.further) facts;
         spares_are = no-spares _ _ (ap (λ (f : Facts). f.spare_slots) facts);
+        counted = ap (λ (f : Facts). f.duties) facts;
+        retired = ap (λ (f : Facts). f.to_retire) facts;
         shut = ap (λ (f : Facts). f.open_slot) facts;
         owes_is = ap (λ (f : Facts). is_owing f.doing) facts;
         waits_are = ap (λ (f : Facts). length f.waits) facts;

@@ -11,4 +11,6 @@ pub mod Ticketless
 pub mod Words
 pub mod Histories
 mod Segments
+pub mod Counting
+pub mod Retired
 pub mod Spared

@@ -36,6 +36,8 @@ module _ {C S E : Type 0} {g : Ghosts C S E} where
         held_is = ap (λ (f : Facts). f.has.held) are ∙ p.held_is;
         further_is = ap (λ (f : Facts). f.has.further) are ∙ p.further_is;
         spares_are = same-spares _ _ _ _ p.spares (ap (λ (f : Facts). f.spare_slots) are) same.cells p.spares_are;
+        counted = ap (λ (f : Facts). f.duties) are ∙ p.counted;
+        retired = ap (λ (f : Facts). f.to_retire) are ∙ p.retired;
         shut = ap (λ (f : Facts). f.open_slot) are ∙ p.shut;
         owes_is = ap (λ (f : Facts). is_owing f.doing) are ∙ p.owes_is;
         waits_are = ap (λ (f : Facts). length f.waits) are ∙ p.waits_are;

@@ -1,5 +1,5 @@
 -- What a pass keeps after a step on a word of the client.
-use Rattle.std.proofs.Common.{◌≡◌, ℕ, ◌<◌, ◌^◌, ◌∙◌, Bool, List, length, Option, None, sym, refl, ap, subst}
+use Rattle.std.proofs.Common.{◌≡◌, ℕ, ◌<◌, ◌^◌, ◌∙◌, Bool, List, [], length, Option, None, sym, refl, ap, subst}
 use Rattle.cqs_rule_laws.specs.declared.client.ClientWords.{Ghosts}
 use Rattle.cqs_rule.specs.declared.queue.Pass.{Pass}
 use Rattle.cqs_rule.specs.Passes.{pass_view}
@@ -25,6 +25,8 @@ module _ {S E : Type 0} where
     held_is : w.facts.has.held ≡ held;
     further_is : w.facts.has.further ≡ further;
     spares_are : HasSpare w.facts.spare_slots w.cells spares;
+    counted : w.facts.duties ≡ [];
+    retired : w.facts.to_retire ≡ [];
     shut : w.facts.open_slot ≡ None;
     owes_is : is_owing w.facts.doing ≡ owes;
     waits_are : length w.facts.waits ≡ waits;
@@ -65,6 +67,8 @@ module _ {C S E : Type 0} {g : Ghosts C S E} where
             ∙ holds now (record { held_is = p.held_is; found_is = refl; made_is = refl });
         further_is = ap (λ (f : Facts). f.has.further) are ∙ furthers now p.further_is refl refl;
         spares_are = same-spares _ _ _ _ p.spares (ap (λ (f : Facts). f.spare_slots) are) same.cells p.spares_are;
+        counted = ap (λ (f : Facts). f.duties) are ∙ p.counted;
+        retired = ap (λ (f : Facts). f.to_retire) are ∙ p.retired;
         shut = ap (λ (f : Facts). f.open_slot) are ∙ p.shut;
         owes_is = ap (λ (f : Facts). is_owing f.doing) are ∙ owing now p.owes_is refl refl;
         waits_are = ap (λ (f : Facts). length f.waits) are ∙ p.waits_are;

@@ -19,6 +19,8 @@ pub record Draws {E S : Type 0} (n : ℕ) (v w : View E S) : Type 0 where
   pub held : w.facts.has.held ≡ v.facts.has.held
   pub waits : length w.facts.waits ≡ length v.facts.waits
   pub ticket : IsTicketOf w.facts.doing n
+  pub duties : w.facts.duties ≡ v.facts.duties
+  pub to_retire : w.facts.to_retire ≡ v.facts.to_retire
 
 -- a pass that has a ticket at this stage has that of the number at which it is
 ticket-of : (at : Stage) (n k : ℕ) → doing_at at n ≡ doing.Ticket k → n ≡ k
@@ -45,5 +47,7 @@ draws object s (at_counter row) payload v n w drew carries =
       held = carries.held;
       waits = omega arith;
       ticket = drawn-ticket object s (at_counter row) payload v n w drew;
+      duties = ap (λ (f : Facts). f.duties) drew.facts_are;
+      to_retire = ap (λ (f : Facts). f.to_retire) drew.facts_are;
     }
 draws object s (at_cell row) payload v n w drew carries = absurd drew

@@ -1,7 +1,6 @@
 -- A pass after a call on segments.
 use Rattle.std.proofs.Common.{◌≡◌, ℕ, ◌<◌, ◌≤◌, List, [], ◌∷◌, ◌++◌, length, Option, refl, ap, sym, ◌∙◌, subst, ⊎_elim, inl, inr, arith}
 use Rattle.std.proofs.lemmas.List.{append-nil}
-use Rattle.std.proofs.lemmas.Bool.{cases_lt}
 use Rattle.atomic_table.specs.Seated.{TableId}
 use Rattle.cqs_slots.proofs.Lists.{home-prefix}
 use Rattle.cqs_rule_laws.specs.declared.client.ClientWords.{Ghosts}
@@ -15,14 +14,13 @@ use Rattle.cqs_rule_laws.specs.Layout.{slots_for, words_for}
 use Rattle.cqs_rule_laws.specs.Lists.{Has}
 use Rattle.cqs_rule_laws.specs.Object.{Object, Primitive}
 use Rattle.cqs_rule_laws.specs.Saw.{IsLive}
-use Rattle.cqs_rule_laws.specs.SegmentSteps.{claimed_slot, facts_left, LeftBy, reset_slot, retiring}
+use Rattle.cqs_rule_laws.specs.SegmentSteps.{claimed_slot, facts_left, LeftBy, reset_slot}
 use Rattle.cqs_rule_laws.specs.Spares.{slots_of}
 use Rattle.cqs_rule_laws.specs.Views.{facts_joined}
 use Rattle.cqs_rule_laws.proofs.Lists.{has_append, has_left, has_right}
 use Rattle.cqs_rule_laws.proofs.Spares.{slots-append}
 use Rattle.cqs_words.specs.declared.segment.TailWord.{TailWord}
 use Rattle.cqs_segment.specs.Extends.{IsKept}
-use Rattle.cqs_segment.specs.Finds.{Counts}
 use Rattle.cqs_segment.specs.Walks.{but_last, EndsWith, IsWalker, Left}
 use Rattle.cqs_segment.proofs.Walks.{and-then, duties-left, spares-left}
 use Rattle.cqs_rule.specs.declared.queue.Pass.{Pass}
@@ -65,7 +63,7 @@ none-spare [] none = refl
 none-spare (x ∷ l) none = absurd (omega arith)
 
 module _ {E S : Type 0} (v w : View E S) (heads : List (ℕ × ℕ)) (spares : List Spare) (duties : List ℕ)
-    (retires : List ℕ) (left : LeftBy heads spares duties (retiring retires v) w) where
+    (left : LeftBy heads spares duties v w) where
   pub inside-left : IsInside v → IsInside w
   inside-left i = subst IsInside (sym left.is) (record {
     number = i.number;
@@ -126,13 +124,12 @@ module _ {C S E : Type 0} {g : Ghosts C S E} where
       let mine = p.cells_are ∙ ap (λ (t : TableId). t.words) b.table in
       let theirs = q.slots_are in omega arith
 
-  -- what the pass keeps, which is to retire these segments now
-  pub keeps-retiring : (p : Pass C S E g) (w : View E S) (heads : List (ℕ × ℕ)) (spares : List Spare)
-      (duties retires : List ℕ) (kept : Spares) → LeftBy heads spares duties (retiring retires (pass_view p)) w
-      → HasSpare spares (pass_view p).cells kept
+  -- what the pass keeps
+  pub keeps-left : (p : Pass C S E g) (w : View E S) (heads : List (ℕ × ℕ)) (spares : List Spare) (kept : Spares)
+      → LeftBy heads spares (pass_view p).facts.duties (pass_view p) w → HasSpare spares (pass_view p).cells kept
       → (items : List (ℕ × Option S)) (t : TableId) → items ≡ p.seat.me.1 → t ≡ p.seat.table_id
       → Keeps w items t.words p.number p.held p.further p.owes p.waits p.ticket kept
-  keeps-retiring p w heads spares duties retires kept left has items t none table =
+  keeps-left p w heads spares kept left has items t none table =
       let is = left.is in record {
         live = (ap (λ (z : View E S). z.weight) is ∙ p.live.0, ap length none ∙ p.live.1);
         number_is = ap (λ (z : View E S). z.number) is ∙ p.number_is;
@@ -140,22 +137,23 @@ module _ {C S E : Type 0} {g : Ghosts C S E} where
         further_is = ap (λ (z : View E S). z.facts.has.further) is ∙ p.further_is;
         spares_are = subst (λ (z : View E S). HasSpare z.facts.spare_slots z.cells kept) (sym is)
             (record { are = has.are; low = has.low });
+        counted = ap (λ (z : View E S). z.facts.duties) is ∙ p.counted;
+        retired = ap (λ (z : View E S). z.facts.to_retire) is ∙ p.retired;
         shut = ap (λ (z : View E S). z.facts.open_slot) is ∙ p.shut;
         owes_is = ap (λ (z : View E S). is_owing z.facts.doing) is ∙ p.owes_is;
         waits_are = ap (λ (z : View E S). length z.facts.waits) is ∙ p.waits_are;
         ticket_is = λ k e. p.ticket_is k (sym (ap (λ (z : View E S). z.facts.doing) is) ∙ e);
         cells_are = ap (λ (z : View E S). words_for z.cells) is ∙
             (p.cells_are ∙ ap (λ (u : TableId). u.words) (sym table));
-        inside = inside-left (pass_view p) w heads spares duties retires left p.inside;
+        inside = inside-left (pass_view p) w heads spares (pass_view p).facts.duties left p.inside;
         few_cells = subst (λ k. k < 2147483648) (sym (ap (λ (z : View E S). z.cells) is)) p.few_cells;
       }
 
   -- and that it is one of its queue
-  pub belongs-retiring : (q : Queue C S E) (p next : Pass C S E g) (heads : List (ℕ × ℕ)) (spares : List Spare)
-      (duties retires : List ℕ) → IsOf q p
-      → LeftBy heads spares duties (retiring retires (pass_view p)) (pass_view next)
+  pub belongs-left : (q : Queue C S E) (p next : Pass C S E g) (heads : List (ℕ × ℕ)) (spares : List Spare)
+      (duties : List ℕ) → IsOf q p → LeftBy heads spares duties (pass_view p) (pass_view next)
       → next.seat.table_id ≡ p.seat.table_id → IsOf q next
-  belongs-retiring q p next heads spares duties retires b left table =
+  belongs-left q p next heads spares duties b left table =
       let is = left.is in record {
         table = table ∙ b.table;
         slots = b.slots;
@@ -163,24 +161,10 @@ module _ {C S E : Type 0} {g : Ghosts C S E} where
         limit = ap (λ (z : View E S). z.limit) is ∙ b.limit;
         cells = ap (λ (z : View E S). z.cells) is ∙ b.cells;
         mode = b.mode;
-        live = live-left (pass_view p) (pass_view next) heads spares duties retires left g.object b.live;
+        live = live-left (pass_view p) (pass_view next) heads spares duties left g.object b.live;
         opening = ap (λ (z : View E S). z.opening) is ∙ b.opening;
-        alone = alone-left (pass_view p) (pass_view next) heads spares duties retires left g.primitive b.alone;
+        alone = alone-left (pass_view p) (pass_view next) heads spares duties left g.primitive b.alone;
       }
-
-  -- the same where it is to retire what it was
-  pub keeps-left : (p : Pass C S E g) (w : View E S) (heads : List (ℕ × ℕ)) (spares : List Spare) (duties : List ℕ)
-      (kept : Spares) → LeftBy heads spares duties (pass_view p) w → HasSpare spares (pass_view p).cells kept
-      → (items : List (ℕ × Option S)) (t : TableId) → items ≡ p.seat.me.1 → t ≡ p.seat.table_id
-      → Keeps w items t.words p.number p.held p.further p.owes p.waits p.ticket kept
-  keeps-left p w heads spares duties kept left has items t none table =
-      keeps-retiring p w heads spares duties (pass_view p).facts.to_retire kept left has items t none table
-
-  pub belongs-left : (q : Queue C S E) (p next : Pass C S E g) (heads : List (ℕ × ℕ)) (spares : List Spare)
-      (duties : List ℕ) → IsOf q p → LeftBy heads spares duties (pass_view p) (pass_view next)
-      → next.seat.table_id ≡ p.seat.table_id → IsOf q next
-  belongs-left q p next heads spares duties b left table =
-      belongs-retiring q p next heads spares duties (pass_view p).facts.to_retire b left table
 
 -- one slot more is spare
 pub has-more : (spares : List Spare) (cells x : ℕ) (kept more : Spares) → HasSpare spares cells kept
@@ -235,15 +219,6 @@ module _ {E S : Type 0} where
   fewer-spares v w some q =
       let same = ap length (spares-left v w [] (but_last v.facts.spare_slots) v.facts.duties q) in
       let less = shorter v.facts.spare_slots some in omega arith
-
-  -- a pass that counted a cell is to retire these segments
-  pub counts-left : (s n : ℕ) (v w : View E S) → n ≤ 32 → Counts s n v w
-      → (retires : List ℕ)
-      × LeftBy [] v.facts.spare_slots (but_last v.facts.duties) (retiring retires v) w
-  counts-left s n v w few c = ⊎_elim
-      (λ (some : n < 32). (v.facts.to_retire, c.some some))
-      (λ (many : 32 ≤ n). (v.facts.to_retire ++ s ∷ [], c.all (omega arith)))
-      (cases_lt n 32)
 
   -- a spare that is kept is reset so far
   pub kept-left : (after tail : TailWord) (x : ℕ) (v w : View E S) → IsKept after x tail v w

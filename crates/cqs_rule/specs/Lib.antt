@@ -7,3 +7,4 @@ pub mod Owed
 pub mod Histories
 pub mod Spares
 pub mod Segments
+pub mod Counting

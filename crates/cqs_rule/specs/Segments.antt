@@ -1,17 +1,25 @@
 -- What the calls on segments leave, by the pass before and after.
-use Rattle.std.specs.Prelude.{ℕ, List, [], ◌∷◌, ◌++◌}
+use Rattle.std.specs.Prelude.{◌≡◌, ℕ, ◌+◌, List, [], ◌∷◌, ◌++◌}
 use Rattle.cqs_words.specs.declared.segment.TailWord.{TailWord}
 use Rattle.cqs_rule_laws.specs.declared.client.ClientWords.{Ghosts}
 use Rattle.cqs_rule_laws.specs.declared.view.Spare.{Spare}
+use Rattle.cqs_rule_laws.specs.declared.view.View.{View}
 use Rattle.cqs_rule_laws.specs.Layout.{slots_for}
 use Rattle.cqs_rule_laws.specs.SegmentSteps.{claimed_slot, LeftBy}
 use Rattle.cqs_segment.specs.declared.extending.Extended.{Extended}
-use Rattle.cqs_segment.specs.declared.leaving.Retired.{Retired}
-use Rattle.cqs_segment.specs.Extends.{ExtendsTo}
-use Rattle.cqs_segment.specs.Finds.{Counts, IsDoneWith}
+use Rattle.cqs_segment.specs.declared.extending.Extended.TheVariants.{Made, Seen}
+use Rattle.cqs_segment.specs.Extends.{ExtendsTo, IsMade}
 use Rattle.cqs_segment.specs.Walks.{but_last, EndsWith, Left}
 use Rattle.cqs_rule.specs.declared.queue.Pass.{Pass}
 use Rattle.cqs_rule.specs.Passes.{pass_view}
+
+-- The spare became the segment after this one, and the pass is to retire what it was to; or the
+-- tail was found to be another.
+abbrev pub ExtendsAlone : {E S : Type 0} → TailWord → ℕ → Extended → View E S → View E S → Type 0
+ExtendsAlone after x (Made tail) v w =
+    (tail ≡ record { id = after.id + 1; slot = x })
+    × IsMade tail w × Left (but_last v.facts.spare_slots) v.facts.duties v w
+ExtendsAlone after x (Seen tail) v w = ExtendsTo after x (Seen tail) v w
 
 module _ {C S E : Type 0} {g : Ghosts C S E} where
   -- how many slots for segments the pass's table has
@@ -35,15 +43,6 @@ module _ {C S E : Type 0} {g : Ghosts C S E} where
   abbrev pub HasStayed : Pass C S E g → Pass C S E g → Type 0
   HasStayed p p' = LeftBy [] (spares_of p) (pass_view p).facts.duties (pass_view p) (pass_view p')
 
-  -- It has one cell less to count, the last, and looked at no head. Where so many of the cells of
-  -- its segment s are counted then as it has, the pass is to retire it.
-  abbrev pub HasCounted : ℕ → ℕ → Pass C S E g → Pass C S E g → Type 0
-  HasCounted s counted p p' = Counts s counted (pass_view p) (pass_view p')
-
-  -- it isn't to retire the segment s any more, whose home was the slot x; all else is as it was
-  abbrev pub HasRetired : ℕ → ℕ → Retired → Pass C S E g → Pass C S E g → Type 0
-  HasRetired x s answer p p' = IsDoneWith x s answer (pass_view p) (pass_view p')
-
   -- it has one slot more, the last
   abbrev pub HasClaimed : Pass C S E g → Pass C S E g → Type 0
   HasClaimed p p' =
@@ -54,8 +53,9 @@ module _ {C S E : Type 0} {g : Ghosts C S E} where
   HasGivenBack p p' =
       LeftBy [] (but_last (spares_of p)) (pass_view p).facts.duties (pass_view p) (pass_view p')
 
-  -- its last spare slot is the home of the segment after this one now, which it is to retire then;
-  -- or stays spare
+  -- its last spare slot is the home of the segment after this one now, and it is to retire none; or
+  -- the slot stays spare
   abbrev pub HasExtended : TailWord → Extended → Pass C S E g → Pass C S E g → Type 0
   HasExtended after answer p p' =
-      (x : ℕ) × EndsWith (spares_of p) x × ExtendsTo after x answer (pass_view p) (pass_view p')
+      (x : ℕ) × EndsWith (spares_of p) x
+      × ExtendsAlone after x answer (pass_view p) (pass_view p')

@@ -10,7 +10,8 @@ use Rattle.cqs_rule_laws.specs.Exchanges.{CrossedBy}
 use Rattle.cqs_rule_laws.specs.Layout.{client_place}
 use Rattle.cqs_rule_laws.specs.Slots.{laid_in}
 use Rattle.cqs_rule_laws.specs.SlotSteps.{GivesAway, HandedIn}
-use Rattle.cqs_rule_laws.specs.Loads.{LoadStep, Loaded}
+use Rattle.cqs_rule_laws.specs.Loads.{LoadStep}
+use Rattle.cqs_rule.specs.Counting.{LoadedThen, ThenCounted}
 use Rattle.cqs_rule.specs.Passes.{pass_view, client_of, slots_of}
 use Rattle.cqs_words.specs.Cell.{index_in}
 
@@ -46,9 +47,10 @@ module _ {C S E : Type 0} {g : Ghosts C S E} where
   HasMoved event made i n p p' =
       Moved g.object g.primitive event made (client_place i) (pass_view p) n (pass_view p')
 
-  -- a load of this word found n
+  -- a load of this word found n, and the cell that it settled, if it settled one, was counted
   abbrev pub HasLoaded : LoadStep → ℕ → ℕ → Pass C S E g → Pass C S E g → Type 0
-  HasLoaded load word n p p' = Loaded g.object g.primitive load word (pass_view p) n (pass_view p')
+  HasLoaded load word n p p' =
+      LoadedThen g.object g.primitive load word (pass_view p) n (pass_view p')
 
   -- the number n was drawn from a counter
   abbrev pub HasDrawn : QueueStep → ℕ → Pass C S E g → Pass C S E g → Type 0
@@ -59,8 +61,9 @@ module _ {C S E : Type 0} {g : Ghosts C S E} where
   HasPut element n p p' =
       DrewBy g.object puts (row_of puts) element (pass_view p) n (pass_view p')
 
-  -- an exchange on a cell, where `expected` was wanted, found n
+  -- an exchange on a cell, where `expected` was wanted, found n, and the cell was counted if it
+  -- settled it
   abbrev pub HasCrossed : QueueStep → ℕ → ℕ → Pass C S E g → Pass C S E g → Type 0
-  HasCrossed s expected n p p' =
-      CrossedBy g.object g.primitive s (row_of s) (index_in expected) expected (pass_view p) n
+  HasCrossed s expected n p p' = ThenCounted
+      (CrossedBy g.object g.primitive s (row_of s) (index_in expected) expected (pass_view p) n)
       (pass_view p')

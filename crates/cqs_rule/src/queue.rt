@@ -1,6 +1,6 @@
 //! The queue, and the passes that callers make its steps with.
 
-ghost use Rattle.std.specs.Prelude.{◌≡◌, ◌+◌, ◌<◌, ◌≤◌, ◌^◌, length, None};
+ghost use Rattle.std.specs.Prelude.{◌≡◌, ◌+◌, ◌<◌, ◌≤◌, ◌^◌, [], length, None};
 ghost use Rattle.cqs_rule_laws.specs.Inside.{IsInside};
 ghost use Rattle.cqs_rule_laws.specs.Layout.{words_for};
 ghost use Rattle.cqs_rule_laws.specs.Loads.{IsTicketOf};
@@ -8,6 +8,7 @@ ghost use Rattle.cqs_rule_laws.specs.Facts.{is_owing};
 ghost use Rattle.cqs_rule.specs.Spares.{HasSpare};
 ghost use Rattle.cqs_slots.specs.Layout.{slot_words};
 
+mod counting;
 mod histories;
 mod opening;
 mod parked;
@@ -63,6 +64,10 @@ pub struct Pass<C: ClientWords> {
     pub ghost held_is: { seat.me.0.facts.has.held ≡ held },
     pub ghost further_is: { seat.me.0.facts.has.further ≡ further },
     pub ghost spares_are: { HasSpare seat.me.0.facts.spare_slots seat.me.0.cells spares },
+    // Between any two of its calls each cell that it settled is counted, and it is to retire no
+    // segment.
+    pub ghost counted: { seat.me.0.facts.duties ≡ [] },
+    pub ghost retired: { seat.me.0.facts.to_retire ≡ [] },
     pub ghost shut: { seat.me.0.facts.open_slot ≡ None },
     pub ghost owes_is: { is_owing seat.me.0.facts.doing ≡ owes },
     pub ghost waits_are: { length seat.me.0.facts.waits ≡ waits },

@@ -74,7 +74,8 @@ learned_at cancels x = served_in (shown_state x)
 learned_at meets x = refused_in (shown_state x)
 learned_at misses x = cancelled_in (shown_state x)
 
-word-learned : (by : CellState → Learned) (k : ℕ) (x : CoreState) (payload : ℕ) → k < 2 ^ 40 → payload < 2 ^ 20
+-- what a pass learns from the word of a cell in this state
+pub word-learned : (by : CellState → Learned) (k : ℕ) (x : CoreState) (payload : ℕ) → k < 2 ^ 40 → payload < 2 ^ 20
     → learned_of by (unpacked_cell (word_of k x payload)) ≡ by (shown_state x)
 word-learned by k x payload low fits =
     ap (learned_of by) (unpacked_cell-packed_cell (record { index = k; state = shown_state x; payload = payload })

@@ -1,5 +1,5 @@
 -- What is known later is known still: a pass that goes on, in whatever way, knows the places that it knew.
-use Rattle.std.proofs.Common.{◌≡◌, ℕ, ◌/◌, ◌<◌, Option, List, ◌∙◌, refl, sym, subst}
+use Rattle.std.proofs.Common.{◌≡◌, ℕ, ◌-◌, ◌/◌, ◌%◌, ◌<◌, ◌≤◌, Option, List, ◌∙◌, refl, sym, subst, arith}
 use Rattle.cqs_rule_laws.specs.declared.config.Place.{Place}
 use Rattle.cqs_rule_laws.specs.declared.view.View.{View}
 use Rattle.cqs_rule_laws.specs.declared.view.Facts.{Facts}
@@ -7,10 +7,11 @@ use Rattle.cqs_rule_laws.specs.Called.{Called}
 use Rattle.cqs_rule_laws.specs.Crew.{Met}
 use Rattle.cqs_rule_laws.specs.Layout.{slots_for}
 use Rattle.cqs_rule_laws.specs.Object.{Object}
-use Rattle.cqs_rule_laws.specs.Placed.{GoesOn, KnowsPlace, place_known, place_word}
+use Rattle.cqs_rule_laws.specs.Placed.{GoesOn, KnowsPlace, place_at, place_known, place_word}
 use Rattle.cqs_rule_laws.specs.Saw.{Saw}
 use Rattle.cqs_rule_laws.specs.SlotSteps.{Swapped}
 use Rattle.cqs_rule_laws.specs.Views.{IsSame, as_before}
+use Rattle.cqs_slots.specs.Slots.{IsHome}
 use Rattle.cqs_slots.proofs.Lists.{home-prefix}
 use Rattle.cqs_slots.proofs.Loads.{sees-same, sees-then}
 use Rattle.cqs_rule_laws.proofs.Calls.{same-here}
@@ -21,6 +22,19 @@ module _ {E S : Type 0} where
       let p = place_word v at k in
       place_known w at p.0 (home-prefix v.segments.homes w.segments.homes (at.index / 32) p.0 goes.segments.homes p.1)
       (subst (λ n. p.0 < slots_for n) (sym goes.cells) p.2) p.3
+
+  -- the word of a cell tells in which slot it stands
+  pub home-of-cell : (v : View E S) (word k : ℕ) → KnowsPlace v (place_at word k)
+      → (144 ≤ word) × ((word - 144) / 48 < slots_for v.cells) × IsHome v.segments.homes (k / 32) ((word - 144) / 48)
+  home-of-cell v word k place =
+      let p = place_word v (place_at word k) place in
+      let few : k % 32 < 32 = omega arith in
+      let word_is = p.3 in
+      let slot : (word - 144) / 48 ≡ p.0 = omega arith in (
+        omega arith,
+        subst (λ x. x < slots_for v.cells) (sym slot) p.2,
+        subst (IsHome v.segments.homes (k / 32)) (sym slot) p.1,
+      )
 
   -- a pass goes on where it stays as it was but for what it has seen and is at
   pub goes-same : (v w : View E S) → IsSame v w → GoesOn v w

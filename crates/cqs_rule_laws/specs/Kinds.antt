@@ -7,6 +7,7 @@ use Rattle.cqs_rule_laws.specs.declared.change.Waits.{Waits}
 use Rattle.cqs_rule_laws.specs.declared.change.Waits.TheVariants as waits
 use Rattle.cqs_rule_laws.specs.declared.view.Facts.{Facts}
 use Rattle.cqs_rule_laws.specs.Facts.{is_owing}
+use Rattle.cqs_rule_laws.specs.Settling.{settles_row}
 use Rattle.cqs_core.specs.QueueSteps.{QueueStep, row_of, StepRow, at_counter, at_cell, stage_counted, Cost, no_cost, one_owed, one_element, Gain, nothing, its_own, a_debt, WaitChange, wait_stays, wait_opens, wait_closes}
 
 -- what a pass that held this much holds after the change
@@ -63,12 +64,14 @@ change_by (at_counter row) = record {
   owes = owes_at_stage (stage_counted row.counter);
   pays = pays_owed row.cost;
   waits = waits.Stay;
+  settles = false;
 }
 change_by (at_cell row) = record {
   gains = gains_own row.gain;
   owes = owes_at_stage row.goes_to;
   pays = false;
   waits = waits_by row.wait;
+  settles = settles_row row;
 }
 
 abbrev pub change_of : QueueStep → Change

@@ -11,6 +11,7 @@ const STAYS: Change = Change {
     owes: false,
     pays: false,
     waits: Waits::Stay,
+    settles: false,
 };
 
 /// Which step of the queue a call makes.
@@ -101,6 +102,7 @@ impl Kind for Takes {
     fn change() -> Change {
         Change {
             gains: true,
+            settles: true,
             ..STAYS
         }
     }
@@ -190,6 +192,7 @@ impl Kind for Settles {
     fn change() -> Change {
         Change {
             waits: Waits::Close,
+            settles: true,
             ..STAYS
         }
     }
@@ -205,6 +208,7 @@ impl Kind for SettlesOwing {
         Change {
             owes: true,
             waits: Waits::Close,
+            settles: true,
             ..STAYS
         }
     }
@@ -233,6 +237,7 @@ impl Kind for RefusesValue {
     fn change() -> Change {
         Change {
             waits: Waits::Close,
+            settles: true,
             ..STAYS
         }
     }

@@ -9,6 +9,7 @@ use Rattle.cqs_rule_laws.specs.declared.view.Spare.{Spare}
 use Rattle.cqs_rule_laws.specs.declared.view.View.{View}
 use Rattle.cqs_rule_laws.specs.Layout.{slots_for}
 use Rattle.cqs_rule_laws.specs.SegmentSteps.{Began, Extended, LeftBy, reset_slot, retiring, retiring_too, Went}
+use Rattle.cqs_segment.specs.Extends.{WasLast}
 use Rattle.cqs_segment.specs.Walks.{but_last, EndsReset, Left, Looked}
 use Rattle.cqs_segment.proofs.Endings.{ends-reset}
 use Rattle.cqs_segment.proofs.Walks.{and-looked, and-then, duties-left, ends-now, left-retiring, retires-left, spares-left, went-then}
@@ -97,6 +98,9 @@ module _ {E S : Type 0} where
             (subst (λ (p : List Spare × List ℕ). Left (p.0 ++ reset_slot x after.id 34 ∷ []) p.1 v w)
             (λ i. (now.0 i, duties-left u v left.0 _ u.facts.duties left.1 i)) reset)
 
+        low-reset : after.slot < slots_for u.cells
+        low-reset = start.1
+
         module _ (looked : Looked w z) where
           pub home-lit : IsHome z.segments.homes after.id after.slot
           home-lit = home-then w z after.id after.slot looked.1.segments home-reset
@@ -104,6 +108,14 @@ module _ {E S : Type 0} where
           pub left-lit : Left (but_last u.facts.spare_slots ++ reset_slot x after.id 34 ∷ []) u.facts.duties u z
           left-lit = and-looked u w z (but_last u.facts.spare_slots ++ reset_slot x after.id 34 ∷ []) u.facts.duties
               reset-all looked
+
+          -- and so after the exchange of the tail, and what followed
+          pub last-before : (y : View E S) (heads : List (ℕ × ℕ)) (spares : List Spare) (duties retires : List ℕ)
+              → SeesMore z.segments y.segments → LeftBy heads spares duties (retiring retires u) y → WasLast after y
+          last-before y heads spares duties retires more left = record {
+            home = home-then z y after.id after.slot more home-lit;
+            low = subst (λ (t : View E S). after.slot < slots_for t.cells) (sym left.is) low-reset;
+          }
 
           pub ends-lit : EndsReset z.facts.spare_slots x after.id 34
           ends-lit = ends-now u z (but_last u.facts.spare_slots) x after.id 34 u.facts.duties left-lit

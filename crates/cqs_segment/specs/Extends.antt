@@ -16,6 +16,11 @@ pub record IsMade {E S : Type 0} (tail : TailWord) (w : View E S) : Type 0 where
   pub home : IsHome w.segments.homes tail.id tail.slot
   pub lit : tail.id < w.segments.lit
 
+-- The pass knows the slot where this segment was made, which was the last.
+pub record WasLast {E S : Type 0} (tail : TailWord) (w : View E S) : Type 0 where
+  pub home : IsHome w.segments.homes tail.id tail.slot
+  pub low : tail.slot < slots_for w.cells
+
 module _ {E S : Type 0} where
   -- The pass keeps the spare. Either its first load found this tail, and it changed no word; or it
   -- reset all of the spare, and the head of the segment before was made live.
@@ -30,7 +35,7 @@ module _ {E S : Type 0} where
   abbrev pub ExtendsTo : TailWord → ℕ → Extended → View E S → View E S → Type 0
   ExtendsTo after x (Made tail) v w =
       (tail ≡ record { id = after.id + 1; slot = x })
-      × IsMade tail w
+      × IsMade tail w × WasLast after w
       × Left (but_last v.facts.spare_slots) v.facts.duties (retiring_too after.id v) w
   ExtendsTo after x (Seen tail) v w =
       (tail ≢ after) × TailFound (slots_for w.cells) (packed_tail tail) w.segments

@@ -14,7 +14,7 @@ use cqs_rule_laws::{ClientWords, Key, Rule, View};
 use cqs_words::{HeadTag, HeadWord};
 
 /// How many cells a segment has.
-const CELLS: u64 = 32;
+pub const CELLS: u64 = 32;
 
 /// What became of a segment.
 #[derive(Clone, Copy)]

@@ -25,6 +25,6 @@ mod told;
 mod walk;
 
 pub use extending::{Extended, extend};
-pub use leaving::{Retired, count_settled, retire};
+pub use leaving::{CELLS, Retired, count_settled, retire};
 pub use slots::{claim, confirm, give_back};
 pub use walk::{Found, find, last};

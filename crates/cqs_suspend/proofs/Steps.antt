@@ -15,6 +15,8 @@ use Rattle.cqs_rule_laws.specs.Object.{Object, Primitive}
 use Rattle.cqs_rule_laws.specs.Saw.{Saw, WasFound}
 use Rattle.cqs_rule_laws.proofs.Calls.{called-by, called-then, saw-then}
 use Rattle.cqs_rule_laws.proofs.Lists.{has_right}
+use Rattle.cqs_rule_laws.specs.Settling.{settles_row}
+use Rattle.cqs_rule.specs.Counting.{counted_after}
 use Rattle.cqs_cell.specs.Transitions.{facts_since, Made, MadeBy, Missed, MissedBy}
 use Rattle.cqs_find.specs.Finds.{longest_search, facts_searched, Searched}
 use Rattle.cqs_suspend.specs.Suspends.{facts_drawn, cell_found, told_by, draw_entries, end_entries, Ended, EndedBy}
@@ -111,8 +113,10 @@ module _ {C E S : Type 0} (object : Object E) (primitive : C → Primitive E S) 
         heads = way.heads;
         few = omega (arith, both, few, few_more);
         few_heads = way.few_heads;
-        facts_are = m.saw.facts_are
-            ∙ ((λ i. facts_worked object.gains row k m.word (payload_told row.gain payload (told i)) (m.before_is i))
+        counted_heads = m.heads;
+        few_counted = m.few_heads;
+        facts_are = m.saw.facts_are ∙ ap (counted_after (settles_row row) m.heads)
+            ((λ i. facts_worked object.gains row k m.word (payload_told row.gain payload (told i)) (m.before_is i))
             ∙ ((λ i. facts_worked object.gains row k m.word (told_by row payload v.facts)
             (facts_since ((way_is i).found ++ m.found) m.last (way_is i)))
             ∙ (λ i. facts_worked object.gains row k m.word (told_by row payload v.facts)

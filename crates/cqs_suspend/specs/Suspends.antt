@@ -14,6 +14,8 @@ use Rattle.cqs_rule_laws.specs.Hidden.{Gains}
 use Rattle.cqs_rule_laws.specs.Object.{Object, Primitive}
 use Rattle.cqs_rule.specs.Passes.{pass_view}
 use Rattle.cqs_rule_laws.specs.Saw.{WasFound}
+use Rattle.cqs_rule_laws.specs.Settling.{settles_row}
+use Rattle.cqs_rule.specs.Counting.{counted_after}
 use Rattle.cqs_rule.specs.Waits.{place_of, HasWait}
 use Rattle.cqs_find.specs.Finds.{longest_search, facts_searched}
 use Rattle.cqs_suspend.specs.declared.suspending.Suspended.{Suspended}
@@ -45,7 +47,8 @@ module _ {C E S : Type 0} (object : Object E) (primitive : C → Primitive E S) 
   -- cell: the cell was found in the state that the row wants, with this payload, at the end of all
   -- that the pass has seen before the step's entries. The call's entries are those of the two
   -- steps, in order, and the pass is where they lead. In between it found these, by its search for
-  -- the cell and by so many tries in vain.
+  -- the cell and by so many tries in vain. If the last step settled the cell, that is counted, and
+  -- by that at most one head was found.
   pub record Ended (drawing s : QueueStep) (row : CellRow) (tries k payload : ℕ) (v w : View E S)
       : Type 0 where
     pub called : Called object v
@@ -59,9 +62,12 @@ module _ {C E S : Type 0} (object : Object E) (primitive : C → Primitive E S) 
     pub heads : List (ℕ × ℕ)
     pub few : length found + length heads ≤ longest_search + tries
     pub few_heads : length heads ≤ longest_search
+    pub counted_heads : List (ℕ × ℕ)
+    pub few_counted : length counted_heads ≤ 1
     pub facts_are : w.facts
-        ≡ facts_worked object.gains row k word (told_by row payload v.facts)
-        (facts_searched found heads (facts_drawn object.gains k v.facts))
+        ≡ counted_after (settles_row row) counted_heads (facts_worked object.gains row k word
+        (told_by row payload v.facts)
+        (facts_searched found heads (facts_drawn object.gains k v.facts)))
 
   abbrev pub EndedBy : QueueStep → QueueStep → StepRow → ℕ → ℕ → ℕ → View E S → View E S → Type 0
   EndedBy drawing s (at_counter row) tries k payload v w = ⊥

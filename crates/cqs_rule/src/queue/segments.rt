@@ -5,12 +5,10 @@ ghost use mathlib.Core.Logic.{◌↔◌};
 ghost use Rattle.cqs_words.specs.Segment.{packed_tail};
 ghost use Rattle.cqs_slots.specs.Slots.{IsHome};
 ghost use Rattle.cqs_slots.specs.Told.{TailFound};
-ghost use Rattle.cqs_rule_laws.specs.Lists.{Has};
-ghost use Rattle.cqs_segment.specs.Finds.{Finds};
+ghost use Rattle.cqs_segment.specs.Finds.{Finds, Retires};
 ghost use Rattle.cqs_segment.specs.Slots.{Confirms, SawAllTaken};
-ghost use Rattle.cqs_segment.specs.Walks.{EndsAt};
 ghost use Rattle.cqs_rule.specs.Passes.{pass_view, IsOf};
-ghost use Rattle.cqs_rule.specs.Segments.{slot_count, spares_of, HasClaimed, HasCounted, HasExtended, HasGivenBack, HasLeft, HasPassed, HasRetired, HasStayed};
+ghost use Rattle.cqs_rule.specs.Segments.{slot_count, spares_of, HasClaimed, HasExtended, HasGivenBack, HasLeft, HasPassed, HasStayed};
 
 use crate::queue::{Pass, Queue};
 use cqs_rule_laws::{ClientWords, Crowded};
@@ -88,8 +86,8 @@ impl<C: ClientWords> Queue<C> {
     }
 
     /// Makes the segment after this one in the slot that the pass claimed last, of those that it
-    /// has spare. The pass is to retire this one then. Where the tail is found to be another, that
-    /// one is answered and the slot stays spare.
+    /// has spare. This one isn't the last then, so it is taken out where all its cells are counted.
+    /// Where the tail is found to be another, that one is answered and the slot stays spare.
     pub fn extend(&self, pass: &mut Pass<C>, after: TailWord) -> Extended
         requires belongs { IsOf self.now pass.old }
         requires some { 0 < length (spares_of pass.old) }
@@ -107,6 +105,12 @@ impl<C: ClientWords> Queue<C> {
                 );
                 if let Extended::Made(_) = extended {
                     pass.spares = others;
+                    cqs_segment::retire::<C>(
+                        &self.table.shared,
+                        &mut pass.seat,
+                        after.slot,
+                        after.id,
+                    );
                 }
                 extended
             }
@@ -114,32 +118,16 @@ impl<C: ClientWords> Queue<C> {
         }
     }
 
-    /// Counts a cell that the pass settled: the last of those that it is to count, one of this
-    /// segment. It answers how many of the segment's cells are counted then, 1 to 32. Where all
-    /// are, the pass is to retire the segment.
-    pub fn count_settled(&self, pass: &mut Pass<C>, slot: u32, id: u64) -> u32
-        requires belongs { IsOf self.now pass.old }
-        requires low { slot < slot_count pass.old }
-        requires home { IsHome (pass_view pass.old).segments.homes id slot }
-        requires last { EndsAt (pass_view pass.old).facts.duties id }
-        ensures belongs { IsOf self.now pass.new }
-        ensures some { 0 < result }
-        ensures few { result ≤ 32 }
-        ensures all { (result ≡ 32) ↔ Has id (pass_view pass.new).segments.full }
-        ensures counted { HasCounted id result pass.old pass.new }
-    {
-        cqs_segment::count_settled::<C>(&self.table.shared, &mut pass.seat, slot, id)
-    }
-
     /// Takes a segment out where its 32 cells are counted and it isn't the last one. The slot is,
-    /// or was, its home. The pass isn't to retire it any more then, whatever the answer.
+    /// or was, its home.
     pub fn retire(&self, pass: &mut Pass<C>, slot: u32, id: u64) -> Retired
         requires belongs { IsOf self.now pass.old }
         requires low { slot < slot_count pass.old }
         requires small { id < 2 ^ 36 }
         requires home { IsHome (pass_view pass.old).segments.homes id slot }
         ensures belongs { IsOf self.now pass.new }
-        ensures retired { HasRetired slot id result pass.old pass.new }
+        ensures retires { Retires slot id result (pass_view pass.old) (pass_view pass.new) }
+        ensures passed { HasPassed pass.old pass.new }
     {
         cqs_segment::retire::<C>(&self.table.shared, &mut pass.seat, slot, id)
     }

@@ -15,6 +15,7 @@ use crate::queue::{Pass, Queue};
 use cqs_rule_laws::{
     Change, ClientWords, Kind, Learned, Load, Waits, add_at, exchange_at, load_at,
 };
+use cqs_words::CellWord;
 
 // What a pass that held this much holds after the change.
 fn held_after<C: ClientWords>(change: Change, held: u32) -> u32
@@ -55,7 +56,7 @@ fn waits_after(change: Change, waits: u32) -> u32
 impl<C: ClientWords> Queue<C> {
     /// Loads the suspend counter or a cell. A pass that finds the counter below the limit may draw,
     /// the owner of a wait learns in its cell what became of it, and a resume meets the cell of its
-    /// number.
+    /// number. A cell that is settled by that is counted.
     pub fn load_table<L: Load>(&self, pass: &mut Pass<C>, word: u32) -> u64
         requires belongs { IsOf self.now pass.old }
         requires suits { LoadSuits (C.primitive (client_of self.now)).manner L.load }
@@ -69,8 +70,12 @@ impl<C: ClientWords> Queue<C> {
             Learned::Granted => {
                 pass.held = C::held_after_take(pass.held);
                 pass.waits -= 1;
+                self.count_cell(&mut pass.seat, word, CellWord::index_in(found));
             }
-            Learned::Ended => pass.owes = false,
+            Learned::Ended => {
+                pass.owes = false;
+                self.count_cell(&mut pass.seat, word, pass.ticket);
+            }
         }
         found
     }
@@ -99,7 +104,7 @@ impl<C: ClientWords> Queue<C> {
     }
 
     /// Makes an exchange on a cell: that of the number which the pass is at, or that of a wait of
-    /// its own.
+    /// its own. A cell that is settled by that is counted.
     pub fn swap_table<K: Kind>(&self, pass: &mut Pass<C>, word: u32, saw: u64, new: u64) -> u64
         requires belongs { IsOf self.now pass.old }
         requires suits { Suits (C.primitive (client_of self.now)).manner K.step }
@@ -120,6 +125,9 @@ impl<C: ClientWords> Queue<C> {
             pass.owes = change.owes;
             pass.further = further_after(change, pass.further);
             pass.waits = waits_after(change, pass.waits);
+            if change.settles {
+                self.count_cell(&mut pass.seat, word, CellWord::index_in(saw));
+            }
         }
         found
     }

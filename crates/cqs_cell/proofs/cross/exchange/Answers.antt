@@ -9,10 +9,10 @@ pub returns-then-found-expected-clause-made : goal.returns-then-found-expected-c
 returns-then-found-expected-clause-made g c =
     let C = g.C.ClientWords in
     made-by C.object C.primitive g.K.Kind.step _ _ _ _ _ _ _ c.requires.cell c.swap_table-found.ensures.crossed
-    c.if-found-expected.true
+    c.if-found-expected.true c.args.pass.now.counted
 
 pub returns-else-found-expected-clause-missed : goal.returns-else-found-expected-clause-missed
 returns-else-found-expected-clause-missed g c =
     let C = g.C.ClientWords in
     missed-by C.object C.primitive g.K.Kind.step _ _ _ _ _ _ _ c.requires.cell
-    c.swap_table-found.ensures.crossed c.if-found-expected.false
+    c.swap_table-found.ensures.crossed c.if-found-expected.false c.args.pass.now.counted

@@ -8,4 +8,4 @@ pub returns-clause-loaded : goal.returns-clause-loaded
 returns-clause-loaded g c =
     let C = g.C.ClientWords in
     looked-at C.object C.primitive g.L.Load.load _ _ c.args.at _ c.requires.place c.requires.may
-    c.load_table.ensures.saw
+    c.args.pass.now.counted c.load_table.ensures.saw

@@ -1,10 +1,11 @@
 use Rattle.std.proofs.Common.{◌≢◌, inl, inr, refl, sym, ap, subst, arith}
 use Rattle.cqs_words.specs.Segment.{packed_tail, TailFits}
 use Rattle.cqs_slots.specs.Told.{TailFound}
+use Rattle.cqs_slots.proofs.Loads.{sees-then}
 use Rattle.cqs_rule_laws.specs.Layout.{slots_for}
 use Rattle.cqs_rule_laws.specs.SegmentSteps.{retiring_too}
 use Rattle.cqs_segment.specs.Walks.{but_last}
-use Rattle.cqs_segment.proofs.Extensions.{begun-home, compared-other, compared-same, ends-lit, extension-made, extension-missed, home-lit, home-reset, home-then, left-lit, one-tail, start-ends}
+use Rattle.cqs_segment.proofs.Extensions.{begun-home, compared-other, compared-same, ends-lit, extension-made, extension-missed, home-lit, home-reset, home-then, last-before, left-lit, one-tail, start-ends}
 use Rattle.cqs_segment.proofs.Walks.{and-looked}
 use Rattle.cqs_segment.proofs.extending.extend.Goals as goal
 
@@ -91,13 +92,19 @@ returns-clause-extends g c =
     c.make_live.ensures.looked in
     let is = ap packed_tail (compared-same found c.args.after c.if-ne-2.ensures) in
     let made = extension-made u z (but_last u.facts.spare_slots) c.args.slot c.args.after.id
-    c.args.after.slot u.facts.duties (packed_tail found) y left c.swap_tail-found.ensures.extended is in (
+    c.args.after.slot u.facts.duties (packed_tail found) y left c.swap_tail-found.ensures.extended is in
+    let end = and-looked (retiring_too c.args.after.id u) y last (but_last u.facts.spare_slots) u.facts.duties made
+    c.make_live-2.ensures.looked in (
       refl,
       record {
         home = home-then y last _ _ c.make_live-2.ensures.looked.1.segments
             (c.swap_tail-found.ensures.extended.home is);
         lit = c.make_live-2.ensures.lit;
       },
-      and-looked (retiring_too c.args.after.id u) y last (but_last u.facts.spare_slots) u.facts.duties made
-          c.make_live-2.ensures.looked,
+      last-before u v w z c.args.slot c.begin-tail.result c.args.after c.begin-tail.ensures.fits
+          (compared-same c.begin-tail.result c.args.after c.if-ne.ensures) c.begin-tail.ensures.began
+          c.reset.ensures.reset c.make_live.ensures.looked last end.0 _ _ _
+          (sees-then z.segments y.segments last.segments (c.swap_tail-found.ensures.extended.made is).segments
+          c.make_live-2.ensures.looked.1.segments) end.1,
+      end,
     )

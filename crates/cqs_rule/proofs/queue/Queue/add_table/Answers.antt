@@ -40,6 +40,8 @@ invariant_of-pass g c =
           ∙ (ap (further_then (change_of s)) p.further_is
           ∙ (ap (λ z. further_then z p.further) (sym is) ∙ sym c.further_after-pass.ensures));
       spares_are = same-spares _ _ _ _ p.spares carries.spares same.cells p.spares_are;
+      counted = counts.duties ∙ p.counted;
+      retired = counts.to_retire ∙ p.retired;
       shut = carries.open_slot ∙ p.shut;
       owes_is = carries.owes ∙ ap (λ z. z.owes) (sym is);
       waits_are = counts.waits ∙ p.waits_are;

@@ -23,7 +23,7 @@ invariant_of-pass g c =
     let claimed = c.in-Some.ensures.claimed in
     let low = claimed.0 in
     let all = all-slots c.args.self.now p c.requires.belongs in
-    keeps-left p seat.me.0 claimed.1.0 _ v.facts.duties c.with-pass.result claimed.1.1
+    keeps-left p seat.me.0 claimed.1.0 _ c.with-pass.result claimed.1.1
     (has-more v.facts.spare_slots v.cells c.in-Some.slot p.spares c.with-pass.result p.spares_are (omega arith)
     c.with-pass.ensures)
     seat.me.1 seat.table_id c.claim.ensures.bare c.claim.ensures.table
@@ -34,7 +34,7 @@ invariant_of-pass-in-None g c =
     let v = p.seat.me.0 in
     let seat = c.claim.new.seat in
     let taken = c.in-None.ensures.crowded in
-    keeps-left p seat.me.0 taken.heads v.facts.spare_slots v.facts.duties p.spares taken.left p.spares_are
+    keeps-left p seat.me.0 taken.heads v.facts.spare_slots p.spares taken.left p.spares_are
     seat.me.1 seat.table_id c.claim.ensures.bare c.claim.ensures.table
 
 pub returns-in-Some-clause-belongs : goal.returns-in-Some-clause-belongs

@@ -10,7 +10,7 @@ invariant_of-pass g c =
     let v = p.seat.me.0 in
     let seat = c.confirm.new.seat in
     let left = c.confirm.ensures.confirms.loaded.went in
-    keeps-left p seat.me.0 _ v.facts.spare_slots v.facts.duties p.spares left p.spares_are
+    keeps-left p seat.me.0 _ v.facts.spare_slots p.spares left p.spares_are
     seat.me.1 seat.table_id c.confirm.ensures.bare c.confirm.ensures.table
 
 pub returns-clause-belongs : goal.returns-clause-belongs

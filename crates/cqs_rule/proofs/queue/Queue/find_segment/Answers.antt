@@ -13,7 +13,7 @@ invariant_of-pass g c =
     let v = p.seat.me.0 in
     let seat = c.find.new.seat in
     let left = c.find.ensures.looked in
-    keeps-left p seat.me.0 left.0 v.facts.spare_slots v.facts.duties p.spares left.1 p.spares_are
+    keeps-left p seat.me.0 left.0 v.facts.spare_slots p.spares left.1 p.spares_are
     seat.me.1 seat.table_id c.find.ensures.bare c.find.ensures.table
 
 pub returns-clause-belongs : goal.returns-clause-belongs

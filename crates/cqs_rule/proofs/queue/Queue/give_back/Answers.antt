@@ -25,7 +25,7 @@ invariant_of-pass g c =
     let v = p.seat.me.0 in
     let seat = c.give_back.new.seat in
     let given = c.give_back.ensures.given in
-    keeps-left p seat.me.0 [] _ v.facts.duties c.in-Some.others given
+    keeps-left p seat.me.0 [] _ c.in-Some.others given
     (has-less v.facts.spare_slots v.cells c.in-Some.slot p.spares c.in-Some.others p.spares_are
     c.in-Some.ensures.some).2
     seat.me.1 seat.table_id c.give_back.ensures.bare c.give_back.ensures.table

@@ -11,7 +11,7 @@ invariant_of-pass g c =
     let v = p.seat.me.0 in
     let seat = c.last.new.seat in
     let left = c.last.ensures.looked in
-    keeps-left p seat.me.0 [] v.facts.spare_slots v.facts.duties p.spares left p.spares_are
+    keeps-left p seat.me.0 [] v.facts.spare_slots p.spares left p.spares_are
     seat.me.1 seat.table_id c.last.ensures.bare c.last.ensures.table
 
 pub returns-clause-belongs : goal.returns-clause-belongs

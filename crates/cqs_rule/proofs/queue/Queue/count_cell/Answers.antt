@@ -1,0 +1,47 @@
+use Rattle.std.proofs.Common.{◌/◌}
+use Rattle.cqs_rule_laws.specs.SegmentSteps.{retiring_too}
+use Rattle.cqs_rule_laws.proofs.Places.{home-of-cell}
+use Rattle.cqs_rule.proofs.Counting.{all-counted, counted-last, counted-one, fewer-counted, home-then, last-of-one, low-then}
+use Rattle.cqs_rule.proofs.queue.Queue.count_cell.Goals as goal
+
+pub overflow_sub-slot : goal.overflow_sub-slot
+overflow_sub-slot g c = (home-of-cell c.args.seat.now.me.0 c.args.word c.args.number c.requires.place).0
+
+pub count_settled-counted-requires-clause-low : goal.count_settled-counted-requires-clause-low
+count_settled-counted-requires-clause-low g c =
+    (home-of-cell c.args.seat.now.me.0 c.args.word c.args.number c.requires.place).1
+
+pub count_settled-counted-requires-clause-home : goal.count_settled-counted-requires-clause-home
+count_settled-counted-requires-clause-home g c =
+    (home-of-cell c.args.seat.now.me.0 c.args.word c.args.number c.requires.place).2
+
+pub count_settled-counted-requires-clause-last : goal.count_settled-counted-requires-clause-last
+count_settled-counted-requires-clause-last g c =
+    (last-of-one c.args.seat.now.me.0.facts.duties (c.args.number / 32) c.requires.one).0
+
+pub retire-requires-clause-low : goal.retire-requires-clause-low
+retire-requires-clause-low g c =
+    let n = c.count_settled-counted.ensures in
+    low-then (retiring_too (c.args.number / 32) c.args.seat.now.me.0) c.count_settled-counted.new.seat.me.0 _ _ _ _
+    (n.counted.all (all-counted c.if-from-eq-CELLS.true c.from.ensures))
+    (home-of-cell c.args.seat.now.me.0 c.args.word c.args.number c.requires.place).1
+
+pub retire-requires-clause-home : goal.retire-requires-clause-home
+retire-requires-clause-home g c =
+    let n = c.count_settled-counted.ensures in
+    home-then (retiring_too (c.args.number / 32) c.args.seat.now.me.0) c.count_settled-counted.new.seat.me.0 _ _ _ _ _
+    (n.counted.all (all-counted c.if-from-eq-CELLS.true c.from.ensures))
+    (home-of-cell c.args.seat.now.me.0 c.args.word c.args.number c.requires.place).2
+
+pub returns-then-from-eq-CELLS-clause-counted : goal.returns-then-from-eq-CELLS-clause-counted
+returns-then-from-eq-CELLS-clause-counted g c =
+    let n = c.count_settled-counted.ensures in
+    counted-last c.args.seat.now.me.0 c.count_settled-counted.new.seat.me.0 c.retire.new.seat.me.0 _
+    (c.args.number / 32) c.retire.result c.requires.one c.requires.none
+    (n.counted.all (all-counted c.if-from-eq-CELLS.true c.from.ensures)) c.retire.ensures.retires
+
+pub returns-else-from-eq-CELLS-clause-counted : goal.returns-else-from-eq-CELLS-clause-counted
+returns-else-from-eq-CELLS-clause-counted g c =
+    let n = c.count_settled-counted.ensures in
+    counted-one c.args.seat.now.me.0 c.count_settled-counted.new.seat.me.0 _ c.requires.one
+    (n.counted.some (fewer-counted n.few c.if-from-eq-CELLS.false c.from.ensures))

@@ -1,8 +1,17 @@
-//! The calls on segments, on a table as it opens: all its segments are made, and no slot is free.
+//! The calls on segments: on a table as it opens, where all its segments are made, and no slot is
+//! free; and where the cells of a segment are settled, so that it leaves, and its slot is used
+//! again.
 
-use cqs_rule::{CancelMode, Config, Queue};
-use cqs_segment::{Found, Retired};
-use cqs_semaphore_client::SemClient;
+ghost use Rattle.std.specs.Prelude.{◌≡◌};
+ghost use Rattle.cqs_core.specs.declared.doings.Doing.TheVariants.{Idle};
+ghost use Rattle.cqs_rule.specs.Passes.{pass_view, IsOf};
+
+use cqs_cancel::{Left, cancel};
+use cqs_rule::{CancelMode, Config, Pass, Queue};
+use cqs_segment::{CELLS, Extended, Found, Retired};
+use cqs_semaphore_client::{SemClient, next_wait, take_permit};
+use cqs_suspend::{Suspended, suspend};
+use std::process::Abort;
 use std::test::Fail;
 
 // Of 102 cells, so of 4 segments.
@@ -41,5 +50,65 @@ fn segments_of_a_table_that_opens(rt: HostRuntime) -> Result<(), Fail> {
     let Retired::Last = queue.retire(&mut pass, slot, 3) else {
         panic!(rt; "it is the last");
     };
+    Ok(())
+}
+
+// Where no permit is free, one more comes to wait in line, and leaves it.
+fn come_and_leave(rt: &impl Abort, queue: &Queue<SemClient>, pass: &mut Pass<SemClient>)
+    requires belongs { IsOf queue.now pass.old }
+    requires idle { (pass_view pass.old).facts.doing ≡ Idle }
+    ensures belongs { IsOf queue.now pass.new }
+    ensures idle { (pass_view pass.new).facts.doing ≡ Idle }
+{
+    assert!(rt; next_wait(queue, pass) < queue.limit());
+    assert!(rt; take_permit(queue, pass).word == 4_294_967_296);
+    let Suspended::Waits(wait) = suspend(queue, pass) else {
+        panic!(rt; "no value was left for this number");
+    };
+    let Left::Gone = cancel(queue, pass, wait) else {
+        panic!(rt; "nobody served the wait");
+    };
+}
+
+// As many do as a segment has cells.
+fn leave_a_segment(rt: &impl Abort, queue: &Queue<SemClient>, pass: &mut Pass<SemClient>)
+    requires belongs { IsOf queue.now pass.old }
+    requires idle { (pass_view pass.old).facts.doing ≡ Idle }
+    ensures belongs { IsOf queue.now pass.new }
+    ensures idle { (pass_view pass.new).facts.doing ≡ Idle }
+{
+    for _ in 0..CELLS {
+        come_and_leave(rt, queue, pass);
+    }
+}
+
+#[test]
+fn a_slot_is_used_again(rt: HostRuntime) -> Result<(), Fail> {
+    let client = SemClient::new(1);
+    let (queue, mut pass) = Queue::new(rt.alloc(), CONFIG, CancelMode::Smart, client)?;
+    assert!(rt; next_wait(&queue, &mut pass) == 0);
+    assert!(rt; take_permit(&queue, &mut pass).word == 4_294_967_297);
+    leave_a_segment(&rt, &queue, &mut pass);
+    let Found::Over = queue.find_segment(&mut pass, 0) else {
+        panic!(rt; "all its cells are settled");
+    };
+    assert!(rt; pass.spares() == 0);
+    assert!(rt; queue.claim(&mut pass).is_ok());
+    assert!(rt; (pass.spares(), pass.spare(0)) == (1, Some(0)));
+    assert!(rt; queue.claim(&mut pass).is_err());
+    let last = queue.last_segment(&mut pass);
+    assert!(rt; (last.id, last.slot) == (3, 3));
+    let Extended::Made(made) = queue.extend(&mut pass, last) else {
+        panic!(rt; "nobody else makes one");
+    };
+    assert!(rt; (made.id, made.slot) == (4, 0));
+    assert!(rt; !queue.confirm(&mut pass, 0, 0));
+    assert!(rt; queue.confirm(&mut pass, 0, 4));
+    leave_a_segment(&rt, &queue, &mut pass);
+    assert!(rt; pass.spares() == 0);
+    assert!(rt; queue.claim(&mut pass).is_ok());
+    assert!(rt; (pass.spares(), pass.spare(0)) == (1, Some(1)));
+    queue.give_back(&mut pass);
+    assert!(rt; pass.spares() == 0);
     Ok(())
 }

@@ -395,6 +395,9 @@ const RESUMES: usize = 32;
 const STATE: usize = 48;
 const CELLS: usize = 112;
 
+/// So many cells are settled before their memory may be used again.
+const SEGMENT: u64 = 32;
+
 /// The state's word is raised by this much.
 const BIAS: u64 = 1 << 32;
 
@@ -416,6 +419,8 @@ fn cell(number: u64, state: u64, payload: u64) -> u64 {
 /// The semaphore on atomic words: the steps of the running queue, written plainly.
 struct Words {
     words: Vec<AtomicU64>,
+    /// How many cells are settled of each 32.
+    settled: Vec<AtomicU64>,
 }
 
 extern "C" {
@@ -446,7 +451,15 @@ impl Words {
             CELLS.. => cell((place - CELLS) as u64, EMPTY, 0),
             _ => 0,
         };
-        Words { words: (0..CELLS + LIMIT as usize + 1).map(|place| AtomicU64::new(word(place))).collect() }
+        Words {
+            words: (0..CELLS + LIMIT as usize + 1).map(|place| AtomicU64::new(word(place))).collect(),
+            settled: (0..=LIMIT / SEGMENT).map(|_| AtomicU64::new(0)).collect(),
+        }
+    }
+
+    /// Counts the cell of this number among those that are settled.
+    fn count(&self, number: u64) {
+        self.settled[(number / SEGMENT) as usize].fetch_add(1, SeqCst);
     }
 
     fn may_draw(&self) -> bool {
@@ -464,7 +477,9 @@ impl Words {
         if self.exchange(number, EMPTY, WAITER) {
             return Some(number);
         }
-        self.exchange(number, VALUE, TAKEN);
+        if self.exchange(number, VALUE, TAKEN) {
+            self.count(number);
+        }
         None
     }
 
@@ -515,11 +530,20 @@ impl Words {
             return false;
         }
         let end = if self.words[STATE].fetch_add(1, SeqCst) < BIAS { CANCELLED } else { REFUSED };
-        !self.exchange(number, CANCELLING, end) && self.exchange(number, DELEGATED, end)
+        let is_first = self.exchange(number, CANCELLING, end);
+        let is_left_a_value = !is_first && self.exchange(number, DELEGATED, end);
+        if is_left_a_value || end == CANCELLED {
+            self.count(number);
+        }
+        is_left_a_value
     }
 
     fn is_served(&self, number: u64) -> bool {
-        self.words[CELLS + number as usize].load(SeqCst) >> 20 & 15 == RESUMED
+        let is_served = self.words[CELLS + number as usize].load(SeqCst) >> 20 & 15 == RESUMED;
+        if is_served {
+            self.count(number);
+        }
+        is_served
     }
 }
 

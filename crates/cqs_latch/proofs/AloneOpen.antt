@@ -8,7 +8,7 @@ use mathlib.Core.Logic.{dite}
 use native.Mathlib.Decide.{ℕ_discrete}
 use Rattle.cqs_core.specs.declared.doings.Doing.{Doing}
 use Rattle.cqs_core.specs.declared.doings.Doing.TheVariants as doing
-use Rattle.cqs_core.specs.QueueLine.{going, is_resuming, line}
+use Rattle.cqs_core.specs.QueueLine.{ending, going, is_resuming, line}
 use Rattle.cqs_core.specs.QueueState.{Queue}
 use Rattle.cqs_core.specs.Resting.{IsIdle}
 use Rattle.cqs_core.proofs.Counts.{count_by-at}
@@ -38,7 +38,7 @@ use Rattle.cqs_latch.specs.LatchMade.{count_of, mode_of}
 use Rattle.cqs_latch.specs.Owed.{HasOwed, owed_under}
 use Rattle.cqs_latch.specs.Waking.{Ending, served_at, left_at, refused_at, missed_at, woken_entries}
 
-no-more : {A : Type 0} (l : List A) → length l ≡ 0 → l ≡ []
+pub no-more : {A : Type 0} (l : List A) → length l ≡ 0 → l ≡ []
 no-more [] none = refl
 no-more (x ∷ l) none = absurd (omega arith)
 
@@ -102,10 +102,12 @@ module _ {T : Type 0} where
           let r = a.others p other (omega arith) in
           same_Some d doing.Idle (sym there ∙ (r.stands.doing ∙ ap Some r.idle)))
 
-  -- nobody waits
-  nobody-waits : (v : View LatchEntry T) → IsAlone primitive_of v → IsReady v.facts → (plain_after v).opened ≡ true
-      → (plain_after v).waiters.line ≡ []
-  nobody-waits v a ready is_open =
+  -- nobody waits, and no resumption is to end at a cell that was left
+  pub none-due : (v : View LatchEntry T) → (a : IsAlone primitive_of v) → IsReady v.facts
+      → (plain_after v).opened ≡ true
+      → ((plain_after v).waiters.line ≡ [])
+      × (ending (read_as (is_simple (mode_of a.client)) a.hidden.queue) ≡ 0)
+  none-due v a ready is_open =
       let s = as_read (latch_shown (mode_of a.client) (count_of a.client) a.hidden a.words v.seen) in
       let core : IsLatch s = a.shown.core in
       let shows = shows-plain_after v a in
@@ -114,8 +116,10 @@ module _ {T : Type 0} where
       let ways = opens.ways in
       let within = behind s.queue core.sound rests (sum s.owed) ways in
       let still : going s.queue ≡ 0 = none-going s.queue core.sound rests within in
-      let owed : sum s.owed ≡ 0 = sum-none a.hidden.has owes-none in
-      ap (λ o. o.waiters.line) shows ∙ no-more (line s.queue) (omega (arith, ways, still, owed))
+      let owed : sum s.owed ≡ 0 = sum-none a.hidden.has owes-none in (
+        ap (λ o. o.waiters.line) shows ∙ no-more (line s.queue) (omega (arith, ways, still, owed)),
+        omega (arith, ways, still, owed),
+      )
     where
       has-below : (p : ℕ) → p < length a.hidden.has → p < v.passes
       has-below p below =
@@ -135,6 +139,10 @@ module _ {T : Type 0} where
           let below = get-below a.hidden.has p h there in
           let r = a.others p other (has-below p below) in
           ap (λ z. z.further) (same_Some h r.facts.has (sym there ∙ r.stands.has)) ∙ r.owes_none)
+
+  nobody-waits : (v : View LatchEntry T) → IsAlone primitive_of v → IsReady v.facts → (plain_after v).opened ≡ true
+      → (plain_after v).waiters.line ≡ []
+  nobody-waits v a ready is_open = (none-due v a ready is_open).0
 
   -- a pass that owes a resumption owes it of an open latch
   pub owing-opened : (v : View LatchEntry T) → IsAlone primitive_of v → (under : Under) → HasUnder v.facts under

@@ -40,7 +40,7 @@ delivers-append [] more = refl
 delivers-append (k ∷ ks) more = ap (λ l. entry.Deliver k ∷ l) (delivers-append ks more)
 
 -- the last entry of a legal history may come after those before it
-allowed-last : (simple : _) (size : ℕ) (h all : List LatchEntry) (e : LatchEntry) → all ≡ h ++ e ∷ []
+pub allowed-last : (simple : _) (size : ℕ) (h all : List LatchEntry) (e : LatchEntry) → all ≡ h ++ e ∷ []
     → IsLegal simple size all → IsAllowed (object_after simple size h) e
 allowed-last simple size h all e is legal =
     let here : IsAllowed (fold after_entry (opening simple size) (take (length h) all)) e =
@@ -50,17 +50,17 @@ allowed-last simple size h all e is legal =
 
 module _ {T : Type 0} where
   -- what a pass that is alone has seen after a call, and the plain latch then
-  seen-alone : (v w : View LatchEntry T) (es : List LatchEntry) → Called latch_object v es [] w → v.alone ≡ true
+  pub seen-alone : (v w : View LatchEntry T) (es : List LatchEntry) → Called latch_object v es [] w → v.alone ≡ true
       → w.seen ≡ v.seen ++ es
   seen-alone v w es c alone = c.seen ∙ ap (λ l. v.seen ++ l) (c.sole alone)
 
-  after-alone : (v w : View LatchEntry T) (es : List LatchEntry) → Called latch_object v es [] w → v.alone ≡ true
+  pub after-alone : (v w : View LatchEntry T) (es : List LatchEntry) → Called latch_object v es [] w → v.alone ≡ true
       → plain_after w ≡ fold after_entry (plain_after v) es
   after-alone v w es c alone =
       (λ i. object_of (c.same.opening i) (seen-alone v w es c alone i))
       ∙ fold-append after_entry (opening (is_simple v.opening.mode) v.opening.size) v.seen es
 
-  rising-line : (v : View LatchEntry T) (a : IsAlone primitive_of v)
+  pub rising-line : (v : View LatchEntry T) (a : IsAlone primitive_of v)
       → (high : ℕ) × IsRising number_in 0 high (plain_after v).waiters.line
   rising-line v a =
       let s = as_read (latch_shown (mode_of a.client) (count_of a.client) a.hidden a.words v.seen) in

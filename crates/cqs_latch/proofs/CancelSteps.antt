@@ -26,7 +26,6 @@ use Rattle.cqs_cancel.specs.Cancels as cancel
 use Rattle.cqs_cancel.proofs.Outs.{Asks, Asked, EndsGone, asked-so, out-gone, went-gone, out-owing, out-waiter, late-cell, late-ready, late-waits}
 use Rattle.cqs_cancel.specs.declared.at_once.AtOnce.{AtOnce}
 use Rattle.cqs_cancel.specs.declared.at_once.AtOnce.TheVariants as once
-use Rattle.cqs_cancel.specs.declared.cancelling.Left.{Left}
 use Rattle.cqs_cancel.specs.declared.cancelling.Left.TheVariants.{Gone, GoneOwing}
 use Rattle.cqs_latch.specs.declared.answers.LatchLeft.TheVariants as gone
 use Rattle.cqs_rule_laws.specs.declared.config.CancelMode.{CancelMode}

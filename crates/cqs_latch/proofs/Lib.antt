@@ -13,3 +13,5 @@ pub mod Simple
 pub mod AloneSteps
 pub mod AloneOpen
 pub mod AloneOrder
+pub mod AloneHoles
+pub mod AloneByNumber

@@ -1,6 +1,7 @@
 -- A pass that is alone: each of its calls answers as the plain latch does after all that the pass
 -- has seen.
 use Rattle.std.specs.Prelude.{◌≡◌, ℕ, ◌+◌, ◌<◌, ◌≤◌, map, true, false, List, [], ◌∷◌, ◌++◌, Result, Ok, Err}
+use Rattle.cqs_core.specs.Keyed.{insert_by}
 use Rattle.cqs_core.specs.QueueLine.{Waiting}
 use Rattle.cqs_core.specs.QueueWaiters.{Waits, IsServed}
 use Rattle.cqs_latch_object.specs.declared.entries.LatchEntry.{LatchEntry}
@@ -20,11 +21,22 @@ use Rattle.cqs_latch.specs.declared.answers.LatchPolled.TheVariants.{Through, Pe
 use Rattle.cqs_latch.specs.declared.answers.LatchWait.{LatchWait}
 use Rattle.cqs_latch.specs.declared.answers.LatchWait.TheVariants.{Passed, Later}
 use Rattle.cqs_latch.specs.LatchTold.{latch_after}
+use Rattle.cqs_latch.specs.Waking.{Ending, served_at, missed_at, ending_number, woken_entries}
 
 -- these waits are served
 abbrev pub delivers : List ℕ → List LatchEntry
 delivers [] = []
 delivers (k ∷ ks) = entry.Deliver k ∷ delivers ks
+
+-- a resumption serves each of these waits
+abbrev pub serves : List ℕ → List Ending
+serves [] = []
+serves (k ∷ ks) = served_at k ∷ serves ks
+
+-- and one misses each of these, at the place that its number has among the others
+abbrev pub with_misses : List ℕ → List Ending → List Ending
+with_misses [] ends = ends
+with_misses (k ∷ ks) ends = insert_by ending_number (missed_at k) (with_misses ks ends)
 
 module _ {T : Type 0} where
   -- the plain latch, after all that the pass has seen
@@ -79,7 +91,32 @@ module _ {T : Type 0} where
   FinishesInOrder v (Ok done) w = w.seen ≡ v.seen ++ delivers (waiting_in v)
   FinishesInOrder v (Err again) w = ServesFirst [] v w
 
-  -- and a wait, with the next number
+  -- In simple mode a resumption comes to the number of each wait: it serves one that is in the
+  -- line, and misses one that left. So they end, in the order of all these numbers.
+  abbrev pub ends_due : View LatchEntry T → List Ending
+  ends_due v = with_misses (plain_after v).holes (serves (waiting_in v))
+
+  -- so many of them ended, in order, and nothing else happened
+  pub record EndsFirst (own : List LatchEntry) (v w : View LatchEntry T) : Type 0 where
+    pub ends : List Ending
+    pub seen : w.seen ≡ v.seen ++ (own ++ woken_entries ends)
+    pub due : ends_due v ≡ ends ++ ends_due w
+
+  -- The last count down of simple mode ends all of them, and so does the end of what was owed.
+  abbrev pub OpensByNumber : View LatchEntry T → Down → View LatchEntry T → Type 0
+  OpensByNumber v Already w = Unit {0}
+  OpensByNumber v (Left left) w = Unit {0}
+  OpensByNumber v Last w =
+      w.seen
+      ≡ v.seen ++ (entry.DownLast v.number ∷ entry.Open v.number ∷ woken_entries (ends_due v))
+  OpensByNumber v (LastOwing owed) w = ⊥
+
+  abbrev pub FinishesByNumber : View LatchEntry T → Result (Unit {0}) Owed → View LatchEntry T
+      → Type 0
+  FinishesByNumber v (Ok done) w = w.seen ≡ v.seen ++ woken_entries (ends_due v)
+  FinishesByNumber v (Err again) w = ⊥
+
+  -- A wait passes, or comes with the next number.
   abbrev pub IsPlainWait : View LatchEntry T → Result LatchWait AcquireError → Type 0
   IsPlainWait v (Ok Passed) = (plain_after v).count ≡ 0
   IsPlainWait v (Ok (Later wait)) =

@@ -26,6 +26,13 @@ pub data Ending : Type 0 where
   refused_at : (number : ℕ) → Ending
   missed_at : (number : ℕ) → Ending
 
+-- the number at which it ended
+abbrev pub ending_number : Ending → ℕ
+ending_number (served_at k) = k
+ending_number (left_at k) = k
+ending_number (refused_at k) = k
+ending_number (missed_at k) = k
+
 -- the resumption that a call hands back
 abbrev pub handed_back : Resumed → Option Under
 handed_back (resumed.Served k) = None

@@ -2,7 +2,7 @@
 
 ghost use Rattle.std.specs.Prelude.{◌≡◌, ◌+◌, true, pos, ◌≤ℤ◌, IsOk, IfOk, IfErr, OnOk};
 ghost use Rattle.cqs_words.specs.State.{count_in, is_above_zero};
-ghost use Rattle.cqs_latch.specs.Alone.{FinishesInOrder, IsPlainCount, IsPlainFinish, IsPlainOpening, OpensInOrder};
+ghost use Rattle.cqs_latch.specs.Alone.{FinishesByNumber, FinishesInOrder, IsPlainCount, IsPlainFinish, IsPlainOpening, OpensByNumber, OpensInOrder};
 ghost use Rattle.cqs_latch.specs.CountAnswers.{HasCounted, HasFinished, IsReadyAfter, OwesNothing};
 ghost use Rattle.cqs_latch.specs.LatchMade.{mode_of};
 ghost use Rattle.cqs_latch.specs.Owed.{HasOwed};
@@ -39,6 +39,9 @@ impl<T: Carries + Send> Latch<T> {
         ensures alone_in_order { (pass_view pass.old).alone ≡ true
             → mode_of (client_of self.now.queue) ≡ Smart
             → IfOk result (λ down. OpensInOrder (pass_view pass.old) down (pass_view pass.new)) }
+        ensures alone_by_number { (pass_view pass.old).alone ≡ true
+            → mode_of (client_of self.now.queue) ≡ Simple
+            → IfOk result (λ down. OpensByNumber (pass_view pass.old) down (pass_view pass.new)) }
     {
         let loaded = load_to_count(&self.queue, pass);
         if !StateWord::is_above_zero(loaded) {
@@ -75,6 +78,9 @@ impl<T: Carries + Send> Latch<T> {
         ensures alone_in_order { (pass_view pass.old).alone ≡ true
             → mode_of (client_of self.now.queue) ≡ Smart
             → FinishesInOrder (pass_view pass.old) result (pass_view pass.new) }
+        ensures alone_by_number { (pass_view pass.old).alone ≡ true
+            → mode_of (client_of self.now.queue) ≡ Simple
+            → FinishesByNumber (pass_view pass.old) result (pass_view pass.new) }
     {
         let Owed { under, further } = owed;
         if let Some(under) = self.wake_on(pass, under) {

@@ -2,7 +2,7 @@
 
 ghost use Rattle.std.specs.Prelude.{◌≡◌, ◌<◌, ◌+◌, [], None, IfSome, true};
 ghost use Rattle.cqs_core.specs.declared.doings.Doing.TheVariants as doing;
-ghost use Rattle.cqs_latch.specs.Alone.{ServesFirst};
+ghost use Rattle.cqs_latch.specs.Alone.{EndsFirst, ServesFirst};
 ghost use Rattle.cqs_latch.specs.Calls.{IsMine};
 ghost use Rattle.cqs_latch.specs.LatchMade.{mode_of};
 ghost use Rattle.cqs_latch.specs.Owed.{owed_reached};
@@ -30,6 +30,9 @@ impl<T: Carries + Send> Latch<T> {
         ensures in_order { (pass_view pass.old).alone ≡ true
             → mode_of (client_of self.now.queue) ≡ Smart
             → ServesFirst [] (pass_view pass.old) (pass_view pass.new) }
+        ensures by_number { (pass_view pass.old).alone ≡ true
+            → mode_of (client_of self.now.queue) ≡ Simple
+            → EndsFirst [] (pass_view pass.old) (pass_view pass.new) }
         ensures simple { mode_of (client_of self.now.queue) ≡ Simple → result ≡ None }
     {
         let mut left = many;
@@ -58,6 +61,9 @@ impl<T: Carries + Send> Latch<T> {
         ensures in_order { (pass_view pass.old).alone ≡ true
             → mode_of (client_of self.now.queue) ≡ Smart
             → ServesFirst [] (pass_view pass.old) (pass_view pass.new) }
+        ensures by_number { (pass_view pass.old).alone ≡ true
+            → mode_of (client_of self.now.queue) ≡ Simple
+            → EndsFirst [] (pass_view pass.old) (pass_view pass.new) }
         ensures simple { mode_of (client_of self.now.queue) ≡ Simple → result ≡ None }
     {
         match self.mode {
@@ -80,6 +86,9 @@ impl<T: Carries + Send> Latch<T> {
         ensures in_order { (pass_view pass.old).alone ≡ true
             → mode_of (client_of self.now.queue) ≡ Smart
             → ServesFirst [] (pass_view pass.old) (pass_view pass.new) }
+        ensures by_number { (pass_view pass.old).alone ≡ true
+            → mode_of (client_of self.now.queue) ≡ Simple
+            → EndsFirst [] (pass_view pass.old) (pass_view pass.new) }
         ensures simple { mode_of (client_of self.now.queue) ≡ Simple → result ≡ None }
     {
         match self.mode {

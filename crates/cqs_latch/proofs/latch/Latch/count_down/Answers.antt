@@ -6,6 +6,7 @@ use Rattle.cqs_words.specs.State.{count_in}
 use Rattle.cqs_latch.specs.LatchMade.{count_of}
 use Rattle.cqs_latch.proofs.CountSteps.{loaded-to, already-loaded, already-taken, some-left, last-taken, opens-so}
 use Rattle.cqs_latch.specs.declared.answers.Down.TheVariants.{Left, Last, LastOwing, Already}
+use Rattle.cqs_latch.proofs.AloneByNumber.{opened-by_number}
 use Rattle.cqs_latch.proofs.AloneOpen.{plain-opened}
 use Rattle.cqs_latch.proofs.AloneOrder.{opened-all, opened-in_order}
 use Rattle.cqs_latch.proofs.AloneSteps.{plain-counted}
@@ -164,3 +165,24 @@ returns-in-Some-clause-alone_in_order g c = λ alone smart.
     c.count_down-found.ensures.saw)
     c.open.ensures.saw c.open.ensures.belongs.live.legal)
     (λ still. c.wake.ensures.in_order still smart) alone
+
+pub returns-in-None-clause-alone_by_number : goal.returns-in-None-clause-alone_by_number
+returns-in-None-clause-alone_by_number g c = λ alone simple.
+    let last : c.left_after-left.result ≡ 0 = omega (arith, c.if-left-gt0.false) in
+    let one : count_in c.count_down-found.result ≡ pos 1 =
+    c.left_after-left.ensures ∙ ap (λ n. pos (n + 1)) last in
+    let counted = returns-in-None-clause-counted g c in
+    opened-by_number _ (pass_view c.open.new.pass) _ c.resumptions_for-waiters.result
+    (opens-so _ c.requires.ready c.requires.belongs.live.own (pass_view c.count_down-found.new.pass) _ _ _ _ one
+    c.resumptions_for-waiters.ensures
+    (last-taken _ c.requires.ready c.requires.belongs.live.own _ _ _ one
+    (loaded-to _ _ _ (sym c.is_above_zero.ensures ∙ c.if-not-is_above_zero.false) c.load_to_count-loaded.ensures.saw)
+    c.count_down-found.ensures.saw)
+    c.open.ensures.saw c.open.ensures.belongs.live.legal)
+    (λ still. c.wake.ensures.by_number still simple) alone c.wake.ensures.belongs.alone c.wake.new.pass.live.0
+    (counted.1.called.same.alone ∙ alone) (ap (λ (o : Opening). o.mode) c.wake.ensures.belongs.opening ∙ simple)
+    (returns-in-None-clause-ready g c) (returns-in-None-clause-alone_opens g c alone).0
+
+-- in simple mode none is handed back
+pub returns-in-Some-clause-alone_by_number : goal.returns-in-Some-clause-alone_by_number
+returns-in-Some-clause-alone_by_number g c = λ alone simple. absurd (cc (c.wake.ensures.simple simple, c.in-Some.is))

@@ -1,7 +1,9 @@
-use Rattle.std.proofs.Common.{◌∙◌, [], None, Some, Ok, Err, subst, arith}
+use Rattle.std.proofs.Common.{ap, ◌∙◌, [], None, Some, Ok, Err, subst, arith}
+use Rattle.cqs_rule_laws.specs.declared.view.Opening.{Opening}
 use Rattle.cqs_rule.specs.Owed.{under_reached}
 use Rattle.cqs_rule.specs.Passes.{pass_view}
 use Rattle.cqs_latch.specs.Waking.{HasGrown, On}
+use Rattle.cqs_latch.proofs.AloneByNumber.{ends-then, finished-by_number}
 use Rattle.cqs_latch.proofs.AloneOpen.{plain-finished}
 use Rattle.cqs_latch.proofs.AloneOrder.{finished-all, serves-then}
 use Rattle.cqs_latch.proofs.DownSteps.{on-owes, on-woke, on-handed}
@@ -115,3 +117,24 @@ returns-in-Some-wake-clause-alone_in_order g c = λ alone smart.
     let same = (on-ran c.args.owed.under on.0 _ _ on.1).1.along.called.same.alone in
     serves-then [] _ _ _ (c.wake_on.ensures.in_order alone smart)
     (c.wake.ensures.in_order (same ∙ alone) smart)
+
+-- in simple mode none is handed back
+pub returns-in-Some-clause-alone_by_number : goal.returns-in-Some-clause-alone_by_number
+returns-in-Some-clause-alone_by_number g c = λ alone simple. absurd (cc (c.wake_on.ensures.simple simple, c.in-Some.is))
+
+pub returns-in-Some-wake-clause-alone_by_number : goal.returns-in-Some-wake-clause-alone_by_number
+returns-in-Some-wake-clause-alone_by_number g c = λ alone simple.
+    absurd (cc (c.wake.ensures.simple simple, c.in-Some-wake.is))
+
+pub returns-in-None-clause-alone_by_number : goal.returns-in-None-clause-alone_by_number
+returns-in-None-clause-alone_by_number g c = λ alone simple.
+    let on = subst (λ z. On c.args.owed.under (pass_view c.args.pass.now) z (pass_view c.wake_on.new.pass))
+    c.in_default.is c.wake_on.ensures.on in
+    let same = (on-ran c.args.owed.under on.0 _ _ on.1).1.along.called.same.alone in
+    let finished = returns-in-None-clause-finished g c in
+    finished-by_number _ _
+    (ends-then [] _ _ _ (c.wake_on.ensures.by_number alone simple)
+    (c.wake.ensures.by_number (same ∙ alone) simple))
+    c.wake.ensures.belongs.alone c.wake.new.pass.live.0 (finished.1.called.same.alone ∙ alone)
+    (ap (λ (o : Opening). o.mode) c.wake.ensures.belongs.opening ∙ simple)
+    (returns-in-None-clause-ready g c) (returns-in-None-clause-alone g c alone).0

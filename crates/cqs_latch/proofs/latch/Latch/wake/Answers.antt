@@ -1,6 +1,7 @@
 use Rattle.std.proofs.Common.{◌∷◌, [], ◌++◌, None, refl, subst, length-append, ◌∙◌, arith}
 use Rattle.cqs_rule.specs.Passes.{pass_view}
 use Rattle.cqs_latch.specs.Waking.{HasGrown, Next}
+use Rattle.cqs_latch.proofs.AloneByNumber.{ends-nobody, ends-then}
 use Rattle.cqs_latch.proofs.AloneOrder.{serves-nobody, serves-then}
 use Rattle.cqs_latch.proofs.Grown.{smart-where}
 use Rattle.cqs_latch.proofs.WakeSteps.{next-ran, woke-on}
@@ -14,6 +15,7 @@ loop-left-init g c = record {
   payload = c.requires.payload;
   reached = λ smart. omega arith;
   in_order = λ alone smart. serves-nobody _;
+  by_number = λ alone simple. ends-nobody _;
   same = refl;
   ran = ([], omega arith, refl);
 }
@@ -62,6 +64,8 @@ loop-left-preserved g c =
           omega (arith, before, after);
       in_order = λ alone smart.
           serves-then [] v u w (l.in_order alone smart) (c.wake_next.ensures.in_order (l.same ∙ alone) smart);
+      by_number = λ alone simple.
+          ends-then [] v u w (l.by_number alone simple) (c.wake_next.ensures.by_number (l.same ∙ alone) simple);
       same = r.along.called.same.alone ∙ l.same;
       ran = (l.ran.0 ++ next.0 ∷ [], omega (arith, longer, all, some), woke-on l.ran.0 next.0 v u w l.ran.2 next.1);
     }
@@ -79,3 +83,8 @@ pub returns-in-Some-clause-in_order : goal.returns-in-Some-clause-in_order
 returns-in-Some-clause-in_order g c = λ alone smart.
     let l = c.loop-left.invariant in
     serves-then [] _ _ _ (l.in_order alone smart) (c.wake_next.ensures.in_order (l.same ∙ alone) smart)
+
+pub returns-in-Some-clause-by_number : goal.returns-in-Some-clause-by_number
+returns-in-Some-clause-by_number g c = λ alone simple.
+    let l = c.loop-left.invariant in
+    ends-then [] _ _ _ (l.by_number alone simple) (c.wake_next.ensures.by_number (l.same ∙ alone) simple)

@@ -1,8 +1,8 @@
 use Rattle.std.proofs.Common.{◌≡◌, ◌+◌, ◌<◌, ◌≤◌, true, List, [], length}
 use Rattle.cqs_core.specs.declared.doings.Doing.TheVariants as doing
-use Rattle.cqs_rule_laws.specs.declared.config.CancelMode.TheVariants.{Smart}
+use Rattle.cqs_rule_laws.specs.declared.config.CancelMode.TheVariants.{Smart, Simple}
 use Rattle.cqs_rule.specs.Passes.{pass_view, client_of}
-use Rattle.cqs_latch.specs.Alone.{ServesFirst}
+use Rattle.cqs_latch.specs.Alone.{EndsFirst, ServesFirst}
 use Rattle.cqs_latch.specs.Calls.{IsMine}
 use Rattle.cqs_latch.specs.LatchMade.{mode_of}
 use Rattle.cqs_latch.specs.Waking.{Ending, Woke}
@@ -18,6 +18,8 @@ invariant-loop-left g l = record {
       → (pass_view l.fn.pass).facts.reached ≤ (pass_view l.pass).facts.reached;
   in_order : (pass_view l.fn.pass).alone ≡ true → mode_of (client_of l.self.queue) ≡ Smart
       → ServesFirst [] (pass_view l.fn.pass) (pass_view l.pass);
+  by_number : (pass_view l.fn.pass).alone ≡ true → mode_of (client_of l.self.queue) ≡ Simple
+      → EndsFirst [] (pass_view l.fn.pass) (pass_view l.pass);
   same : (pass_view l.pass).alone ≡ (pass_view l.fn.pass).alone;
   ran : (ends : List Ending) × (length ends + l.left ≡ l.many)
       × Woke ends (pass_view l.fn.pass) (pass_view l.pass);

@@ -1,7 +1,9 @@
-use Rattle.std.proofs.Common.{◌∙◌, sym, subst}
+use Rattle.std.proofs.Common.{sym, ap, ◌∙◌, subst}
+use Rattle.cqs_rule_laws.specs.declared.view.Opening.{Opening}
 use Rattle.cqs_rule.specs.Passes.{pass_view, client_of}
 use Rattle.cqs_latch.specs.Waking.{HasGrown, Next}
 use Rattle.cqs_latch.proofs.Grown.{begun-grown}
+use Rattle.cqs_latch.proofs.AloneByNumber.{begun-ends}
 use Rattle.cqs_latch.proofs.AloneOrder.{begun-serves}
 use Rattle.cqs_latch.proofs.Simple.{is-smart, is-at_once, shows-plain}
 use Rattle.cqs_latch.proofs.WakeSteps.{resumed-next, ended-next}
@@ -38,3 +40,14 @@ returns-in-Smart-clause-in_order g c = λ alone smart.
 pub returns-in-Simple-clause-in_order : goal.returns-in-Simple-clause-in_order
 returns-in-Simple-clause-in_order g c = λ alone smart.
     absurd (cc (smart, c.args.self.now.mode_is, c.in-Simple.is))
+
+pub returns-in-Smart-clause-by_number : goal.returns-in-Smart-clause-by_number
+returns-in-Smart-clause-by_number g c = λ alone simple.
+    absurd (cc (simple, c.args.self.now.mode_is, c.in-Smart.is))
+
+pub returns-in-Simple-clause-by_number : goal.returns-in-Simple-clause-by_number
+returns-in-Simple-clause-by_number g c = λ alone simple.
+    begun-ends _ _ c.requires.belongs.alone c.args.pass.now.live.0 c.begin_at_once.ensures.belongs.alone
+    c.begin_at_once.new.pass.live.0 c.begin_at_once.ensures.belongs.live.legal
+    (ap (λ (o : Opening). o.mode) c.requires.belongs.opening ∙ simple) alone
+    c.begin_at_once.result c.begin_at_once.ensures.begun

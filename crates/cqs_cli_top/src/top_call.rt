@@ -22,8 +22,7 @@ use std::thread::Threads;
 /// Its contract is that of `top_alone`, for all commands. Status 0 then means of all other words
 /// than those of `work` what it means there; or the words ask for workers, and the text that was
 /// written, whole and flushed, is that of what so many left of the plan that was read: each
-/// worker's jobs ended as the turn machine of version 1 says over answers that stand in legal
-/// histories.
+/// worker's jobs ended as the turn machine says over answers that stand in legal histories.
 ///
 /// The words of `work` have workers run the plan, each in a thread of its own where one can be made
 /// and on a floor of its own, and so they may wait; all other words are done by `top_alone`. What

@@ -1,5 +1,5 @@
 -- What a worker's jobs need of a plan's resources: no more than the plan's steps, and than its own jobs that arrive.
-use Rattle.std.proofs.Common.{◌≡◌, ◌≢◌, ◌⊎◌, inl, inr, ℕ, zero, suc, ◌+◌, ◌%◌, ◌<◌, ◌≤◌, ◌==◌, nat_le, nat_lt, cond, ◌&&◌, ◌||◌, Bool, true, false, List, [], ◌∷◌, ◌++◌, Some, length, map, take, get_or, slice_get, refl, ap, sym, ◌∙◌, count_by, le-ltb, le-leb, eq-eqb, ne_eqb, eqb-true, arith}
+use Rattle.std.proofs.Common.{◌≡◌, ◌≢◌, ◌⊎◌, inl, inr, ℕ, zero, suc, ◌+◌, ◌-◌, ◌%◌, ◌<◌, ◌≤◌, ◌==◌, nat_le, nat_lt, cond, ◌&&◌, ◌||◌, Bool, true, false, List, [], ◌∷◌, ◌++◌, Some, length, map, take, get_or, slice_get, refl, ap, sym, ◌∙◌, count_by, le-ltb, le-leb, eq-eqb, ne_eqb, eqb-true, arith}
 use Rattle.std.specs.Prelude.{if◌then◌else◌}
 use Rattle.std.specs.List.{list_any, range_with_len}
 use Rattle.std.proofs.lemmas.Bool.{cases_eq, cases_lt, lt-leb}
@@ -21,7 +21,9 @@ use Rattle.cqs_turns_report.specs.declared.states.End.TheVariants as end
 use Rattle.cqs_turns_report.specs.declared.states.Progress.{Progress}
 use Rattle.cqs_turns_report.specs.declared.states.Progress.TheVariants.{Stepping, Ended}
 use Rattle.cqs_work.specs.Needs.{comes_to, sum_of_needs, parties_for, parties_needed, room_needed}
-use Rattle.cqs_work.specs.Opening.{starting}
+use Rattle.cqs_work.specs.Opening.{starting, starting_stage}
+use Rattle.cqs_work.specs.Stages.{stage}
+use Rattle.cqs_turns_report.specs.Machine.{fresh}
 use Rattle.cqs_floor_common.specs.Room.{room_of}
 use Rattle.cqs_floor_shared_queue.specs.Openings.{arrives_from, arriving_from}
 
@@ -34,18 +36,31 @@ starts workers worker place P own other = go (place % workers == worker)
     go true = own
     go false = other
 
--- the room
+-- the room, with all retries
 pub room-enough : (workers worker at place : ℕ) (jobs : List Job)
-    → sum_of_needs (room_needed at) place jobs (map (starting workers worker) (range_with_len place (length jobs)))
+    → sum_of_needs (room_needed at) place jobs
+    (map (starting_stage workers worker) (range_with_len place (length jobs)))
     ≤ room_of jobs at
 room-enough workers worker at place [] = omega arith
 room-enough workers worker at place (job ∷ jobs) =
     let rest = room-enough workers worker at (place + 1) jobs in
-    let here : room_needed at place job (starting workers worker place) ≤ count_by (may_wait at) job.steps =
-    starts workers worker place (λ p. room_needed at place job p ≤ count_by (may_wait at) job.steps)
-    (omega arith) (omega arith) in
+    let here : room_needed at place job (starting_stage workers worker place) ≤ waits_of_job at job =
+    starts workers worker place (λ p. room_needed at place job (stage p fresh) ≤ waits_of_job at job)
+    (own (list_any (may_wait at) job.steps)) (other (list_any (may_wait at) job.steps)) in
     let all = sum_by-cons (waits_of_job at) job jobs in
     omega (arith, rest, here, all)
+  where
+    own : (b : Bool)
+        → count_by (may_wait at) job.steps + (if b then job.retry - 0 else 0)
+        ≤ count_by (may_wait at) job.steps + (if b then job.retry else 0)
+    own true = omega arith
+    own false = omega arith
+
+    other : (b : Bool)
+        → count_by (may_wait at) [] + (if b then 0 else 0)
+        ≤ count_by (may_wait at) job.steps + (if b then job.retry else 0)
+    other true = omega arith
+    other false = omega arith
 
 -- who doesn't arrive has no arrival
 arrivals-none : (at : ℕ) (steps : List Step) → list_any (is_arrival at) steps ≡ false
@@ -122,25 +137,25 @@ from-else workers worker at place job other = go (cases_lt (place % workers) (wo
 pub parties-enough : (b : PlainFloor) → ((job at : ℕ) → round_of b job at ≡ 0) → (workers worker at round place : ℕ)
     (jobs : List Job)
     → sum_of_needs (parties_needed b at round) place jobs
-    (map (starting workers worker) (range_with_len place (length jobs)))
+    (map (starting_stage workers worker) (range_with_len place (length jobs)))
     + arriving_from workers (worker + 1) at place jobs ≤ arriving_from workers worker at place jobs
 parties-enough b none workers worker at round place [] = omega arith
 parties-enough b none workers worker at round place (job ∷ jobs) =
     let rest = parties-enough b none workers worker at round (place + 1) jobs in
-    let here : parties_needed b at round place job (starting workers worker place)
+    let here : parties_needed b at round place job (starting_stage workers worker place)
     + arrives_from workers (worker + 1) at place job ≤ arrives_from workers worker at place job =
     go (cases_eq (place % workers) worker) in
     omega (arith, rest, here)
   where
     go : (place % workers ≡ worker) ⊎ (place % workers ≢ worker)
-        → parties_needed b at round place job (starting workers worker place)
+        → parties_needed b at round place job (starting_stage workers worker place)
         + arrives_from workers (worker + 1) at place job ≤ arrives_from workers worker at place job
     go (inl own) =
         let is : starting workers worker place ≡ Stepping 0 =
         ap (λ (c : Bool). if c then Stepping 0 else Ended end.Done) (eq-eqb (place % workers) worker own) in
-        let needs : parties_needed b at round place job (starting workers worker place)
+        let needs : parties_needed b at round place job (starting_stage workers worker place)
         ≡ parties_for at round 0 job.steps =
-        ap (parties_needed b at round place job) is
+        ap (λ p. parties_needed b at round place job (stage p fresh)) is
         ∙ ap (λ first. parties_for at round first job.steps) (none place at) in
         let few = job-parties at round job in
         let mine = from-own workers worker at place job own in
@@ -149,8 +164,8 @@ parties-enough b none workers worker at round place (job ∷ jobs) =
     go (inr other) =
         let is : starting workers worker place ≡ Ended end.Done =
         ap (λ (c : Bool). if c then Stepping 0 else Ended end.Done) (ne_eqb (place % workers) worker other) in
-        let needs : parties_needed b at round place job (starting workers worker place) ≡ 0 =
-        ap (parties_needed b at round place job) is
+        let needs : parties_needed b at round place job (starting_stage workers worker place) ≡ 0 =
+        ap (λ p. parties_needed b at round place job (stage p fresh)) is
         ∙ ap (λ first. parties_for at round first []) (none place at) ∙ none-comes round 0 (omega arith) in
         let less = from-else workers worker at place job other in
         omega (arith, needs, less)
@@ -226,12 +241,12 @@ pub parties-none : (b : PlainFloor) → ((job at : ℕ) → round_of b job at �
     (jobs : List Job)
     → ((i : ℕ) (job : Job) → slice_get jobs i ≡ Some job → parties_for at round 0 job.steps ≡ 0)
     → sum_of_needs (parties_needed b at round) place jobs
-    (map (starting workers worker) (range_with_len place (length jobs))) ≡ 0
+    (map (starting_stage workers worker) (range_with_len place (length jobs))) ≡ 0
 parties-none b none workers worker at round place [] nobody = refl
 parties-none b none workers worker at round place (job ∷ jobs) nobody =
     let rest = parties-none b none workers worker at round (place + 1) jobs (λ i j got. nobody (suc i) j got) in
-    let here : parties_needed b at round place job (starting workers worker place) ≡ 0 =
-    starts workers worker place (λ p. parties_needed b at round place job p ≡ 0)
+    let here : parties_needed b at round place job (starting_stage workers worker place) ≡ 0 =
+    starts workers worker place (λ p. parties_needed b at round place job (stage p fresh) ≡ 0)
     (ap (λ first. parties_for at round first job.steps) (none place at) ∙ nobody 0 job refl)
     (ap (λ first. parties_for at round first []) (none place at) ∙ none-comes round 0 (omega arith)) in
     omega (arith, rest, here)

@@ -1,5 +1,5 @@
 -- The takes that a worker made, beside the take steps of its jobs.
-use Rattle.std.proofs.Common.{◌≡◌, ◌≢◌, ◌⊎◌, inl, inr, ℕ, suc, ◌+◌, ◌%◌, ◌==◌, ◌&&◌, Bool, true, false, List, [], ◌∷◌, Some, length, slice_get, refl, sym, ap, subst, ◌∙◌, arith, ne_eqb, sum_by}
+use Rattle.std.proofs.Common.{◌≡◌, ◌≢◌, ◌⊎◌, inl, inr, ℕ, suc, ◌+◌, ◌-◌, ◌%◌, ◌==◌, ◌&&◌, Bool, true, false, List, [], ◌∷◌, Some, length, slice_get, refl, sym, ap, subst, ◌∙◌, arith, ne_eqb, sum_by}
 use Rattle.std.specs.Bool.{if◌then◌else◌}
 use Rattle.std.proofs.lemmas.Bool.{cases_eq}
 use Rattle.cqs_plan.specs.declared.plans.job.Job.{Job}
@@ -14,39 +14,42 @@ use Rattle.cqs_work.specs.Accounts.{Weights, sum_in}
 use Rattle.cqs_work.specs.Courses.{made_by, left_by}
 use Rattle.cqs_work.specs.Ends.{job_end, is_done}
 use Rattle.cqs_work.specs.Needs.{sum_of_needs}
-use Rattle.cqs_work.specs.Opening.{starting}
-use Rattle.cqs_work.specs.Takes.{takes_in, take_steps}
+use Rattle.cqs_work.specs.Opening.{starting_stage}
+use Rattle.cqs_work.specs.Takes.{takes_in, take_steps, take_tries, takes_with_retries, sum_of_takes}
 use Rattle.cqs_work.specs.Worked.{is_own, is_own_done, end_at}
+use Rattle.cqs_work.specs.Stages.{Stage}
+use Rattle.cqs_plan.specs.PlanSteps.{is_take}
+use Rattle.std.specs.List.{list_any}
 
--- what is needed of each job is its take steps, where it counts
-steps-needed : (w : ℕ → Job → Progress → ℕ) (counts : ℕ → Bool) (at k : ℕ) (jobs : List Job) (progress : List Progress)
-    → length progress ≡ length jobs
-    → ((i : ℕ) (job : Job) (p : Progress) → slice_get jobs i ≡ Some job → slice_get progress i ≡ Some p
-    → w (k + i) job p ≡ (if counts (k + i) then takes_in at job.steps else 0))
-    → sum_of_needs w k jobs progress ≡ take_steps counts at k jobs
-steps-needed w counts at k [] progress long same = refl
-steps-needed w counts at k (job ∷ jobs) [] long same = absurd (omega (arith, long))
-steps-needed w counts at k (job ∷ jobs) (p ∷ progress) long same =
+-- what is needed of each job is so much, where it counts
+steps-needed : (w : ℕ → Job → Stage → ℕ) (counts : ℕ → Bool) (each : Job → ℕ) (k : ℕ) (jobs : List Job)
+    (stages : List Stage) → length stages ≡ length jobs
+    → ((i : ℕ) (job : Job) (s : Stage) → slice_get jobs i ≡ Some job → slice_get stages i ≡ Some s
+    → w (k + i) job s ≡ (if counts (k + i) then each job else 0))
+    → sum_of_needs w k jobs stages ≡ sum_of_takes counts each k jobs
+steps-needed w counts each k [] stages long same = refl
+steps-needed w counts each k (job ∷ jobs) [] long same = absurd (omega (arith, long))
+steps-needed w counts each k (job ∷ jobs) (s ∷ stages) long same =
     let none : k + 0 ≡ k = omega arith in
-    let first : w k job p ≡ (if counts k then takes_in at job.steps else 0)
-    = subst (λ n. w n job p ≡ (if counts n then takes_in at job.steps else 0)) none (same 0 job p refl refl) in
-    let later = steps-needed w counts at (k + 1) jobs progress (omega (arith, long))
-    (λ i j x got_j got_x. subst (λ n. w n j x ≡ (if counts n then takes_in at j.steps else 0)) (further i)
+    let first : w k job s ≡ (if counts k then each job else 0)
+    = subst (λ n. w n job s ≡ (if counts n then each job else 0)) none (same 0 job s refl refl) in
+    let later = steps-needed w counts each (k + 1) jobs stages (omega (arith, long))
+    (λ i j x got_j got_x. subst (λ n. w n j x ≡ (if counts n then each j else 0)) (further i)
     (same (suc i) j x got_j got_x)) in
     omega (arith, first, later)
   where
     further : (i : ℕ) → k + suc i ≡ (k + 1) + i
     further i = omega arith
 
-none-needed : (w : ℕ → Job → Progress → ℕ) (k : ℕ) (jobs : List Job) (progress : List Progress)
-    → ((i : ℕ) (job : Job) (p : Progress) → slice_get jobs i ≡ Some job → slice_get progress i ≡ Some p
-    → w (k + i) job p ≡ 0) → sum_of_needs w k jobs progress ≡ 0
-none-needed w k [] progress none = refl
+none-needed : (w : ℕ → Job → Stage → ℕ) (k : ℕ) (jobs : List Job) (stages : List Stage)
+    → ((i : ℕ) (job : Job) (s : Stage) → slice_get jobs i ≡ Some job → slice_get stages i ≡ Some s
+    → w (k + i) job s ≡ 0) → sum_of_needs w k jobs stages ≡ 0
+none-needed w k [] stages none = refl
 none-needed w k (job ∷ jobs) [] none = refl
-none-needed w k (job ∷ jobs) (p ∷ progress) none =
+none-needed w k (job ∷ jobs) (s ∷ stages) none =
     let zero_is : k + 0 ≡ k = omega arith in
-    let first : w k job p ≡ 0 = subst (λ n. w n job p ≡ 0) zero_is (none 0 job p refl refl) in
-    let later = none-needed w (k + 1) jobs progress
+    let first : w k job s ≡ 0 = subst (λ n. w n job s ≡ 0) zero_is (none 0 job s refl refl) in
+    let later = none-needed w (k + 1) jobs stages
     (λ i j x got_j got_x. subst (λ n. w n j x ≡ 0) (further i) (none (suc i) j x got_j got_x)) in
     omega (arith, first, later)
   where
@@ -77,62 +80,67 @@ done-is (Stepping next) done = absurd (cc)
 done-is (Working next until) done = absurd (cc)
 done-is (Waiting next at round number) done = absurd (cc)
 
-module _ (plan : Plan) (workers worker at : ℕ) (ends : List JobEnd) (first last : List Progress)
+module _ (plan : Plan) (workers worker at : ℕ) (ends : List JobEnd) (first last : List Stage)
     (first_long : length first ≡ length plan.jobs) (last_long : length last ≡ length plan.jobs)
-    (starts : (place : ℕ) (p : Progress) → slice_get first place ≡ Some p → p ≡ starting workers worker place)
-    (ended : (place : ℕ) (p : Progress) → place % workers ≡ worker → slice_get last place ≡ Some p
-    → end_at ends place ≡ job_end p) where
+    (starts : (place : ℕ) (s : Stage) → slice_get first place ≡ Some s → s ≡ starting_stage workers worker place)
+    (ended : (place : ℕ) (s : Stage) → place % workers ≡ worker → slice_get last place ≡ Some s
+    → end_at ends place ≡ job_end s.progress) where
   -- the jobs that are done have made all their takes
   pub done-made : sum_of_needs (made_by (is_own_done workers worker ends) at) 0 plan.jobs last
       ≡ take_steps (is_own_done workers worker ends) at 0 plan.jobs
   done-made = steps-needed (made_by (is_own_done workers worker ends) at)
-      (is_own_done workers worker ends) at 0 plan.jobs last last_long
-      (λ i job p got_job got. from-first i (λ n. made_by (is_own_done workers worker ends) at n job p
+      (is_own_done workers worker ends) (λ job. takes_in at job.steps) 0 plan.jobs last last_long
+      (λ i job s got_job got. from-first i (λ n. made_by (is_own_done workers worker ends) at n job s
       ≡ (if is_own_done workers worker ends n then takes_in at job.steps else 0))
-      (go i job p got (is_own_done workers worker ends i) refl))
+      (go i job s got (is_own_done workers worker ends i) refl))
     where
-      go : (i : ℕ) (job : Job) (p : Progress) → slice_get last i ≡ Some p → (b : Bool)
+      go : (i : ℕ) (job : Job) (s : Stage) → slice_get last i ≡ Some s → (b : Bool)
           → is_own_done workers worker ends i ≡ b
-          → made_by (is_own_done workers worker ends) at i job p
+          → made_by (is_own_done workers worker ends) at i job s
           ≡ (if is_own_done workers worker ends i then takes_in at job.steps else 0)
-      go i job p got true is =
+      go i job s got true is =
           let both = both-true (is_own workers worker i) (is_done (end_at ends i)) is in
           let own : i % workers ≡ worker = own-is (i % workers) worker both.0 in
-          let done : is_done (job_end p) ≡ true = ap is_done (sym (ended i p own got)) ∙ both.1 in
-          let at_end : p ≡ Ended end.Done = done-is p done in
+          let done : is_done (job_end s.progress) ≡ true = ap is_done (sym (ended i s own got)) ∙ both.1 in
+          let at_end : s.progress ≡ Ended end.Done = done-is s.progress done in
           rw (is, at_end) refl
-      go i job p got false is = rw is refl
+      go i job s got false is = rw is refl
 
   -- and before the first turn none had made any
   pub none-made : sum_of_needs (made_by (is_own_done workers worker ends) at) 0 plan.jobs first ≡ 0
   none-made = none-needed (made_by (is_own_done workers worker ends) at) 0 plan.jobs first
-      (λ i job p got_job got. from-first i (λ n. made_by (is_own_done workers worker ends) at n job p ≡ 0)
-      (go i job p got (is_own_done workers worker ends i) refl))
+      (λ i job s got_job got. from-first i (λ n. made_by (is_own_done workers worker ends) at n job s ≡ 0)
+      (go i job s got (is_own_done workers worker ends i) refl))
     where
-      go : (i : ℕ) (job : Job) (p : Progress) → slice_get first i ≡ Some p → (b : Bool)
-          → is_own_done workers worker ends i ≡ b → made_by (is_own_done workers worker ends) at i job p ≡ 0
-      go i job p got true is =
+      go : (i : ℕ) (job : Job) (s : Stage) → slice_get first i ≡ Some s → (b : Bool)
+          → is_own_done workers worker ends i ≡ b → made_by (is_own_done workers worker ends) at i job s ≡ 0
+      go i job s got true is =
           let both = both-true (is_own workers worker i) (is_done (end_at ends i)) is in
           let own : i % workers == worker ≡ true = both.0 in
-          let begun : p ≡ Stepping 0 = starts i p got ∙ rw own refl in
+          let begun : s.progress ≡ Stepping 0 = ap (λ (x : Stage). x.progress) (starts i s got) ∙ rw own refl in
           rw (is, begun) refl
-      go i job p got false is = rw is refl
+      go i job s got false is = rw is refl
 
-  -- those of a worker may make all of theirs
-  pub all-left : sum_of_needs (left_by at) 0 plan.jobs first ≡ take_steps (is_own workers worker) at 0 plan.jobs
-  all-left = steps-needed (left_by at) (is_own workers worker) at 0 plan.jobs first first_long
-      (λ i job p got_job got. from-first i (λ n. left_by at n job p
-      ≡ (if is_own workers worker n then takes_in at job.steps else 0))
-      (go i job p got (i % workers == worker) refl))
+  -- those of a worker may make all of theirs, with all retries
+  pub all-left : sum_of_needs (left_by at) 0 plan.jobs first ≡ take_tries (is_own workers worker) at 0 plan.jobs
+  all-left = steps-needed (left_by at) (is_own workers worker) (takes_with_retries at) 0 plan.jobs first first_long
+      (λ i job s got_job got. from-first i (λ n. left_by at n job s
+      ≡ (if is_own workers worker n then takes_with_retries at job else 0))
+      (subst (λ x. left_by at i job x ≡ (if is_own workers worker i then takes_with_retries at job else 0))
+      (sym (starts i s got)) (go i job (i % workers == worker) refl)))
     where
-      go : (i : ℕ) (job : Job) (p : Progress) → slice_get first i ≡ Some p → (b : Bool) → i % workers == worker ≡ b
-          → left_by at i job p ≡ (if i % workers == worker then takes_in at job.steps else 0)
-      go i job p got true is =
-          let begun : p ≡ Stepping 0 = starts i p got ∙ rw is refl in
-          rw (begun, is) refl
-      go i job p got false is =
-          let over : p ≡ Ended end.Done = starts i p got ∙ rw is refl in
-          rw (over, is) refl
+      go : (i : ℕ) (job : Job) (b : Bool) → i % workers == worker ≡ b
+          → left_by at i job (starting_stage workers worker i)
+          ≡ (if i % workers == worker then takes_with_retries at job else 0)
+      go i job true is =
+          let whole : job.retry - 0 ≡ job.retry = omega arith in
+          rw is
+          (ap (λ n. takes_in at job.steps + (if list_any (is_take at) job.steps then n else 0)) whole)
+      go i job false is = rw is (none (list_any (is_take at) job.steps))
+        where
+          none : (b : Bool) → 0 + (if b then 0 else 0) ≡ 0
+          none true = refl
+          none false = refl
 
 -- what a caller's entries add up to is told by them alone
 abbrev sum_own : Weights → History → ℕ

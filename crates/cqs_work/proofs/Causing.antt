@@ -1,7 +1,8 @@
 -- What stands behind how far a job is, and what it adds by its calls.
-use Rattle.std.proofs.Common.{◌≡◌, ◌≢◌, ◌⊎◌, inl, inr, ℕ, suc, ◌+◌, ◌≤◌, ◌==◌, true, false, cond, List, [], ◌∷◌, ◌++◌, Option, Some, None, IsSome, All, length, get_or, take, drop, slice_get, count_by, refl, sym, ap, subst, ◌∙◌, append_assoc, arith, eq-eqb, ne_eqb}
+use Rattle.std.proofs.Common.{◌≡◌, ◌≢◌, ◌⊎◌, inl, inr, ℕ, suc, ◌+◌, ◌≤◌, ◌==◌, Bool, ◌||◌, true, false, cond, List, [], ◌∷◌, ◌++◌, Option, Some, None, IsSome, All, length, get_or, take, drop, slice_get, count_by, refl, sym, ap, subst, ◌∙◌, append_assoc, arith, eq-eqb, ne_eqb}
 use Rattle.std.specs.Bool.{if◌then◌else◌}
 use Rattle.std.specs.List.{fold}
+use Rattle.std.specs.Option.{option_map}
 use Rattle.std.proofs.lemmas.List.{append-nil, take_all}
 use Rattle.std.proofs.lemmas.List.Elements.{All-append, All-nil}
 use Rattle.std.proofs.lemmas.List.Sums.{fold-append, sum_by_push, sum_by-cons}
@@ -13,7 +14,8 @@ use Rattle.cqs_turns_report.specs.declared.states.End.{End}
 use Rattle.cqs_turns_report.specs.declared.states.End.TheVariants as end
 use Rattle.cqs_turns_report.specs.declared.states.Progress.{Progress}
 use Rattle.cqs_turns_report.specs.declared.states.Progress.TheVariants.{Stepping, Working, Waiting, Ended}
-use Rattle.cqs_turns_report.specs.Machine.{is_due}
+use Rattle.cqs_turns_report.specs.Machine.{Role, is_due, is_outwaited, is_over_time}
+use Rattle.cqs_turns_report.specs.declared.states.Patience.{Patience}
 use Rattle.cqs_floor_shared.specs.Entries.{IsBefore}
 use Rattle.cqs_floor_shared.specs.Shared.{seen_at, came_of}
 use Rattle.cqs_work.specs.declared.waits.Waited.{Waited}
@@ -21,9 +23,9 @@ use Rattle.cqs_work.specs.Desk.{Desk}
 use Rattle.cqs_work.specs.Later.{Later}
 use Rattle.cqs_work.specs.Noted.{HasPermits}
 use Rattle.cqs_work.specs.Takes.{takes_in, takes_made, takes_left, Tallies, took}
-use Rattle.cqs_work.specs.Causes.{IsCaused, IsInLine, IsCauseOf, HasCause, WasTooLate, WasServed, last_wait}
+use Rattle.cqs_work.specs.Causes.{IsCaused, IsInLine, IsCauseOf, HasCause, MayBeOverTime, WasTooLate, WasServed, last_wait}
 use Rattle.cqs_work.specs.Ends.{job_end}
-use Rattle.cqs_work.specs.Adds.{Adds, Keeps, IsOver}
+use Rattle.cqs_work.specs.Adds.{Adds, Keeps, IsOver, AddsSo}
 use Rattle.cqs_work.proofs.Growing.{left-stays, late-stays, served-stays, drawn-stays}
 
 -- who waits for something else is told nothing here
@@ -81,13 +83,13 @@ caused-stays job place f g (Waiting next at round number) later waits came cause
     line-stays place at round number f g later waits came cause
 caused-stays job place f g (Ended end.Done) later waits came cause = tt
 caused-stays job place f g (Ended end.GaveUp) later waits came cause = record {
-  deadline = cause.deadline;
+  time = cause.time;
   wait = cause.wait;
   last = waits ∙ cause.last;
   left = cause-stays place cause.wait.at cause.wait.round cause.wait.number f g end.GaveUp later came cause.left;
 }
 caused-stays job place f g (Ended end.Late) later waits came cause = record {
-  deadline = cause.deadline;
+  time = cause.time;
   wait = cause.wait;
   last = waits ∙ cause.last;
   late = cause-stays place cause.wait.at cause.wait.round cause.wait.number f g end.Late later came cause.late;
@@ -105,8 +107,8 @@ caused-stays job place f g (Ended end.Crowded) later waits came cause = record {
 }
 
 -- the calls of one job leave what stands behind another as it is
-pub others-caused : (job other : Job) (place j : ℕ) (f g : Desk) (p q x : Progress) → Later f.floor g.floor
-    → Adds job place f p g q → j ≢ place → IsCaused other j f x → IsCaused other j g x
+pub others-caused : {tallies : ℕ → Type 0} (job other : Job) (place j : ℕ) (f g : Desk) (p q x : Progress)
+    → Later f.floor g.floor → AddsSo job place f p g q tallies → j ≢ place → IsCaused other j f x → IsCaused other j g x
 others-caused job other place j f g p q x later adds away cause =
     caused-stays other j f g x later
     (ap (last_wait j) adds.waits ∙ last-else j f.waits adds.more
@@ -263,9 +265,22 @@ tally-gave-up at steps next waits round number before after e (inl is) same =
 tally-gave-up at steps next waits round number before after e (inr is) same =
     rw is (record { grows = omega (arith, same); least = omega (arith, same); most = omega (arith, same) })
 
-pub due-some : (deadline : Option ℕ) (turn : ℕ) → is_due deadline turn ≡ true → IsSome deadline
+due-some : (deadline : Option ℕ) (turn : ℕ) → is_due deadline turn ≡ true → IsSome deadline
 due-some (Some d) turn due = refl
 due-some None turn due = absurd (cc)
+
+out-some : (within : Option ℕ) (since turn : ℕ) → is_due (option_map (λ w. since + w) within) turn ≡ true
+    → IsSome within
+out-some (Some w) since turn out = refl
+out-some None since turn out = absurd (cc)
+
+-- a job that is over time may be so
+pub over-some : (r : Role) (x : Patience) → is_over_time r x ≡ true → MayBeOverTime r.job
+over-some r x long = go (is_due r.job.deadline r.turn) refl long
+  where
+    go : (b : Bool) → is_due r.job.deadline r.turn ≡ b → (b || is_outwaited r x) ≡ true → MayBeOverTime r.job
+    go true due either = inl (due-some r.job.deadline r.turn due)
+    go false none either = inr (out-some r.job.within x.since r.turn either)
 
 -- what stands behind an end is in all histories, too
 module _ (job : Job) (place : ℕ) (f g : Desk) (before : (at : ℕ) → IsBefore (seen_at f.floor at) (seen_at g.floor at))
@@ -277,14 +292,14 @@ module _ (job : Job) (place : ℕ) (f g : Desk) (before : (at : ℕ) → IsBefor
   seen-cause (Waiting next at round wait) cause = tt
   seen-cause (Ended end.Done) cause = tt
   seen-cause (Ended end.GaveUp) cause = record {
-    deadline = cause.deadline;
+    time = cause.time;
     wait = cause.wait;
     last = ap (last_wait place) waits ∙ cause.last;
     left = rw number (left-stays (seen_at f.floor cause.wait.at) (seen_at g.floor cause.wait.at) cause.wait.round
         f.floor.number cause.wait.number (before cause.wait.at) cause.left);
   }
   seen-cause (Ended end.Late) cause = record {
-    deadline = cause.deadline;
+    time = cause.time;
     wait = cause.wait;
     last = ap (last_wait place) waits ∙ cause.last;
     late = late cause.late;

@@ -9,7 +9,6 @@ use Rattle.cqs_plan.specs.declared.plans.plan.Plan.{Plan}
 use Rattle.cqs_plan.specs.Runnable.{kinds_of}
 use Rattle.cqs_turns_report.specs.declared.actors.Actor.{Actor}
 use Rattle.cqs_turns_report.specs.declared.states.End.{End}
-use Rattle.cqs_turns_report.specs.declared.states.End.TheVariants as end
 use Rattle.cqs_turns_report.specs.declared.states.JobState.{JobState}
 use Rattle.cqs_turns_report.specs.declared.states.Progress.{Progress}
 use Rattle.cqs_turns_report.specs.declared.states.Progress.TheVariants.{Stepping, Working, Waiting, Ended}
@@ -23,7 +22,7 @@ use Rattle.cqs_work.specs.Desk.{Desk}
 use Rattle.cqs_work.specs.Heard.{Heard, Hears, heard, heard_world}
 use Rattle.cqs_work.specs.Roles.{same, give_each, leave_end, ended_so}
 use Rattle.cqs_work.specs.Doing.{Stands, GaveUp}
-use Rattle.cqs_work.specs.Works.{HasWorkedOn, RunsOn, HasWorked, turns_of, machine_so, progress_of, line_left_so, close, after_last_gives, close_from, close_all, IsClear, AllClear, AreKept}
+use Rattle.cqs_work.specs.Works.{HasWorkedOn, RunsOn, HasWorked, turns_of, machine_so, line_left_so, close, after_last_gives, close_from, close_all, IsClear, AllClear, AreKept}
 use Rattle.cqs_work.specs.Adds.{Keeps}
 use Rattle.cqs_work.specs.Courses.{Went}
 use Rattle.cqs_work.proofs.Adding.{keeps-none, keeps-then}
@@ -33,6 +32,7 @@ use Rattle.cqs_work.proofs.HeardLemmas.{hears-then, hears-on, hears-none}
 use Rattle.cqs_work.proofs.Moving.{moves-none, moves-on}
 use Rattle.cqs_work.proofs.StepNeeds.{drop-at}
 use Rattle.cqs_work.proofs.Turning.{moved-ready}
+use Rattle.cqs_work.specs.Stages.{Stage, stage_of, stages_of, progress_at, done_stage}
 
 -- a job that waits leaves its line
 pub left-line : (a : Actor) (f g : Desk) (p : Progress) (next at round number : ℕ) (e : End)
@@ -95,11 +95,11 @@ closes a f g k p held left is gives =
 
 -- the jobs before `place` are clear, and the others can close
 pub record ClosingOn (plan : Plan) (place : ℕ) (f g : Desk) (first states : List JobState) : Type 0 where
-  pub heard : Hears f g (close_all plan (progress_of first))
-      (close_from plan place (drop place plan.jobs) (progress_of first))
+  pub heard : Hears f g (close_all plan (stages_of first))
+      (close_from plan place (drop place plan.jobs) (stages_of first))
   pub keeps : Keeps f g
   pub same_kinds : g.floor.board.kinds ≡ f.floor.board.kinds
-  pub progress : progress_of states ≡ progress_of first
+  pub stages : stages_of states ≡ stages_of first
   pub jobs : length states ≡ length plan.jobs
   pub kinds : g.floor.board.kinds ≡ kinds_of plan.resources
   pub ready : (j : ℕ) (state : JobState) → place ≤ j → slice_get states j ≡ Some state
@@ -113,10 +113,10 @@ pub record ClosingOn (plan : Plan) (place : ℕ) (f g : Desk) (first states : Li
 pub closing-starts : (plan : Plan) (f : Desk) (states : List JobState) → RunsOn plan f.floor states
     → ClosingOn plan 0 f f states states
 closing-starts plan f states runs = record {
-  heard = hears-none f (close_all plan (progress_of states));
+  heard = hears-none f (close_all plan (stages_of states));
   keeps = keeps-none f;
   same_kinds = refl;
-  progress = refl;
+  stages = refl;
   jobs = runs.jobs;
   kinds = runs.kinds;
   ready = λ j state past got.
@@ -149,21 +149,22 @@ module _ (plan : Plan) (place : ℕ) (f g k : Desk) (first states : List JobStat
   module _ (resources : (role a).resources ≡ plan.resources) (turn : (role a).turn ≡ plan.turns)
       (there : (role a).place ≡ place) (job : slice_get plan.jobs place ≡ Some (role a).job)
       (gave : GaveUp a g (close a state.progress) same k) (clear : IsClear k.floor.board a.place)
-      (held : after.held.items ≡ places_held k.floor.board a.place) (progress : after.progress ≡ state.progress) where
+      (held : after.held.items ≡ places_held k.floor.board a.place) (same_stage : stage_of after ≡ stage_of state) where
     abbrev rest : Heard → Heard
-    rest h = close_from plan (place + 1) (drop (place + 1) plan.jobs) (progress_of first) h
+    rest h = close_from plan (place + 1) (drop (place + 1) plan.jobs) (stages_of first) h
 
-    step-is : (h : Heard) → close_from plan place (drop place plan.jobs) (progress_of first) h
+    step-is : (h : Heard) → close_from plan place (drop place plan.jobs) (stages_of first) h
         ≡ rest (close a state.progress h)
     step-is h =
         let split : drop place plan.jobs ≡ (role a).job ∷ drop (place + 1) plan.jobs
         = drop-at plan.jobs place (role a).job job in
-        let its_progress : slice_get (progress_of first) place ≡ Some state.progress
-        = ap (λ ps. slice_get ps place) (sym on.progress)
-        ∙ get-map (λ (s : JobState). s.progress) states place state its-state in
-        let found : get_or (progress_of first) place (Ended end.Done) ≡ state.progress
-        = get_or_from_slice_get (progress_of first) place state.progress (Ended end.Done) its_progress in
-        ap (λ jobs. close_from plan place jobs (progress_of first) h) split
+        let its_stage : slice_get (stages_of first) place ≡ Some (stage_of state)
+        = ap (λ ps. slice_get ps place) (sym on.stages)
+        ∙ get-map (λ (s : JobState). stage_of s) states place state its-state in
+        let found : progress_at (stages_of first) place ≡ state.progress
+        = ap (λ (s : Stage). s.progress)
+        (get_or_from_slice_get (stages_of first) place (stage_of state) done_stage its_stage) in
+        ap (λ jobs. close_from plan place jobs (stages_of first) h) split
         ∙ ap rest (λ i. after_last_gives (record {
           resources = sym resources i;
           turn = sym turn i;
@@ -198,21 +199,21 @@ module _ (plan : Plan) (place : ℕ) (f g k : Desk) (first states : List JobStat
 
     pub closes-next : ClosingOn plan (place + 1) f k first (set states place after)
     closes-next =
-        let step : Hears g k (close_from plan place (drop place plan.jobs) (progress_of first)) rest = record {
+        let step : Hears g k (close_from plan place (drop place plan.jobs) (stages_of first)) rest = record {
           later = gave.hears.later;
           answers = gave.hears.answers;
           told = gave.hears.told;
           plays = λ more. step-is (heard g (gave.hears.answers ++ more)) ∙ ap rest (gave.hears.plays more);
         } in
         record {
-          heard = hears-then f g k (close_all plan (progress_of first))
-              (close_from plan place (drop place plan.jobs) (progress_of first)) rest on.heard step;
+          heard = hears-then f g k (close_all plan (stages_of first))
+              (close_from plan place (drop place plan.jobs) (stages_of first)) rest on.heard step;
           keeps = keeps-then f g k on.same_kinds on.keeps gave.keeps;
           same_kinds = gave.moves.kinds ∙ on.same_kinds;
-          progress = map-set (λ (s : JobState). s.progress) states place after
-              ∙ ap (set (progress_of states) place) progress
-              ∙ set-same (progress_of states) place state.progress
-              (get-map (λ (s : JobState). s.progress) states place state its-state) ∙ on.progress;
+          stages = map-set (λ (s : JobState). stage_of s) states place after
+              ∙ ap (set (stages_of states) place) same_stage
+              ∙ set-same (stages_of states) place (stage_of state)
+              (get-map (λ (s : JobState). stage_of s) states place state its-state) ∙ on.stages;
           jobs = length-set states place after ∙ on.jobs;
           kinds = gave.moves.kinds ∙ on.kinds;
           ready = λ j s past got.
@@ -230,9 +231,9 @@ module _ (plan : Plan) (place : ℕ) (f g k : Desk) (first states : List JobStat
 
 pub closing-ends : (plan : Plan) (place : ℕ) (f g : Desk) (first states : List JobState)
     → ClosingOn plan place f g first states → length plan.jobs ≡ place
-    → Hears f g (close_all plan (progress_of first)) same
+    → Hears f g (close_all plan (stages_of first)) same
 closing-ends plan place f g first states on all =
-    subst (λ jobs. Hears f g (close_all plan (progress_of first)) (close_from plan place jobs (progress_of first)))
+    subst (λ jobs. Hears f g (close_all plan (stages_of first)) (close_from plan place jobs (stages_of first)))
     (drop_all place plan.jobs (omega (arith, all))) on.heard
 
 pub all-clear : (plan : Plan) (place : ℕ) (f g : Desk) (first states : List JobState)
@@ -245,31 +246,31 @@ all-clear plan place f g first states on all = record {
 
 -- a worker's work
 worked : (plan : Plan) (f last g : Desk) (states mid ends : List JobState)
-    → Hears f last (turns_of plan plan.turns (progress_of states)) (machine_so (progress_of mid))
+    → Hears f last (turns_of plan plan.turns (stages_of states)) (machine_so (stages_of mid))
     → RunsOn plan last.floor mid
-    → Went plan f (progress_of states) last (progress_of mid) → Hears last g (close_all plan (progress_of mid)) same
-    → Keeps last g → AllClear plan g.floor → progress_of ends ≡ progress_of mid → HasWorked plan f states ends g
-worked plan f last g states mid ends turns runs went closing keeps clear progress = record {
+    → Went plan f (stages_of states) last (stages_of mid) → Hears last g (close_all plan (stages_of mid)) same
+    → Keeps last g → AllClear plan g.floor → stages_of ends ≡ stages_of mid → HasWorked plan f states ends g
+worked plan f last g states mid ends turns runs went closing keeps clear stages = record {
   last = last;
-  long = sym (length-map ends (λ (s : JobState). s.progress)) ∙ ap length progress
-      ∙ length-map mid (λ (s : JobState). s.progress) ∙ runs.jobs;
-  turns = subst (λ p. Hears f last (turns_of plan plan.turns (progress_of states)) (machine_so p)) (sym progress) turns;
-  went = subst (λ p. Went plan f (progress_of states) last p) (sym progress) went;
-  closing = subst (λ p. Hears last g (close_all plan p) same) (sym progress) closing;
+  long = sym (length-map ends (λ (s : JobState). stage_of s)) ∙ ap length stages
+      ∙ length-map mid (λ (s : JobState). stage_of s) ∙ runs.jobs;
+  turns = subst (λ p. Hears f last (turns_of plan plan.turns (stages_of states)) (machine_so p)) (sym stages) turns;
+  went = subst (λ p. Went plan f (stages_of states) last p) (sym stages) went;
+  closing = subst (λ p. Hears last g (close_all plan p) same) (sym stages) closing;
   keeps = keeps;
   clear = clear;
 }
 
 -- the same, where both were made
 pub worked-ok : {T E : Type 0} (r : Result T E) (plan : Plan) (f last g : Desk) (states mid ends : List JobState)
-    → Hears f last (turns_of plan plan.turns (progress_of states)) (machine_so (progress_of mid))
+    → Hears f last (turns_of plan plan.turns (stages_of states)) (machine_so (stages_of mid))
     → RunsOn plan last.floor mid
-    → Went plan f (progress_of states) last (progress_of mid)
-    → OnOk r (Hears last g (close_all plan (progress_of mid)) same) → OnOk r (Keeps last g)
-    → OnOk r (AllClear plan g.floor) → OnOk r (progress_of ends ≡ progress_of mid)
+    → Went plan f (stages_of states) last (stages_of mid)
+    → OnOk r (Hears last g (close_all plan (stages_of mid)) same) → OnOk r (Keeps last g)
+    → OnOk r (AllClear plan g.floor) → OnOk r (stages_of ends ≡ stages_of mid)
     → OnOk r (HasWorkedOn plan f states ends g.floor g.waits)
-worked-ok (Ok x) plan f last g states mid ends turns runs went closing keeps clear progress = record {
+worked-ok (Ok x) plan f last g states mid ends turns runs went closing keeps clear stages = record {
   gate = g.gate;
-  works = worked plan f last g states mid ends turns runs went closing keeps clear progress;
+  works = worked plan f last g states mid ends turns runs went closing keeps clear stages;
 }
-worked-ok (Err e) plan f last g states mid ends turns runs went closing keeps clear progress = tt
+worked-ok (Err e) plan f last g states mid ends turns runs went closing keeps clear stages = tt

@@ -13,9 +13,6 @@ use Rattle.cqs_core.specs.Numbered.{IsIn}
 use Rattle.cqs_plan.specs.declared.plans.job.Job.{Job}
 use Rattle.cqs_plan.specs.declared.plans.plan.Plan.{Plan}
 use Rattle.cqs_plan.specs.declared.plans.resource.Resource.{Resource}
-use Rattle.cqs_turns_report.specs.declared.states.End.TheVariants as end
-use Rattle.cqs_turns_report.specs.declared.states.Progress.{Progress}
-use Rattle.cqs_turns_report.specs.declared.states.Progress.TheVariants.{Ended}
 use Rattle.cqs_plan.specs.Floor.{IsHoldable}
 use Rattle.cqs_plan.specs.FloorHistory.{History, of_permits, of_elements, of_latch, of_rounds}
 use Rattle.cqs_plan.specs.Runnable.{IsRunnable, kinds_of}
@@ -38,21 +35,22 @@ use Rattle.cqs_work.specs.Gated.{Gated, HasTold, untold}
 use Rattle.cqs_work.specs.Ends.{job_end}
 use Rattle.cqs_work.specs.Noted.{draws_in, HasPermits, told_at, as_draw, IsNoted}
 use Rattle.cqs_work.specs.Rows.{AreLines}
-use Rattle.cqs_work.specs.Takes.{takes, took, take_steps}
+use Rattle.cqs_work.specs.Takes.{takes, took, take_steps, take_tries}
 use Rattle.cqs_work.specs.Even.{IsEven, IsEvenAtPool}
 use Rattle.cqs_work.specs.Heard.{heard}
 use Rattle.cqs_work.specs.Later.{Later, IsSound, IsUnnamed}
 use Rattle.cqs_work.specs.Met.{CanMeet, CanMeetAll, HaveMet, HaveMetAll, IsKeptIn}
 use Rattle.cqs_work.specs.Opening.{dealt, AreStarting, IsOpening, AreSplit, ArePosts}
-use Rattle.cqs_work.specs.Works.{HasWorkedOn, RunsOn, HasWorked, AllWorked, progress_of, turns_of, close_all}
-use Rattle.cqs_work.specs.Worked.{IsGated, AreGated, IsParted, AreParted, AreEnds, IsTold, AreTold, AreQuiet, AreWaits, AreBounded, HaveAllIn, progress_at, end_at, is_own, is_own_done, seeing_all}
+use Rattle.cqs_work.specs.Stages.{Stage, stage_of, stages_of, progress_at, done_stage}
+use Rattle.cqs_work.specs.Works.{HasWorkedOn, RunsOn, HasWorked, AllWorked, turns_of, close_all}
+use Rattle.cqs_work.specs.Worked.{IsGated, AreGated, IsParted, AreParted, AreEnds, IsTold, AreTold, AreQuiet, AreWaits, AreBounded, HaveAllIn, end_at, is_own, is_own_done, seeing_all}
 use Rattle.cqs_work.proofs.Lasting.{later-then}
 use Rattle.cqs_work.proofs.Meeting.{has-back}
 use Rattle.cqs_work.proofs.Causing.{caused-stays, seen-cause}
 use Rattle.cqs_work.proofs.Bounding.{done-made, none-made, all-left, sum-kept}
 use Rattle.cqs_work.proofs.Crews.{IsMember, AreCrew, waits-are, line-told}
 use Rattle.cqs_work.proofs.Gating.{told-then}
-use Rattle.cqs_work.proofs.Openings.{map-back, progress-dealt, opening-runs, opening-sound, opening-accounted, opening-noted, opening-took, opening-caused, opening-own, starting-at}
+use Rattle.cqs_work.proofs.Openings.{map-back, stages-dealt, opening-runs, opening-sound, opening-accounted, opening-noted, opening-took, opening-caused, opening-own, starting-at}
 use Rattle.cqs_work.proofs.Quieting.{at-rest, IsEvenOwn, even-then, quiet-at}
 
 -- a caller that is unnamed has nothing that isn't behind it
@@ -347,12 +345,12 @@ module _ {F : Type 0} (shared : F → Shared) (plan : Plan) (floors : List F) (p
               let more : List Waited = it.works.went.more in
               let there : slice_get it.works.went.more among.place ≡ Some w
               = ap (λ l. slice_get l among.place) (sym told-all) ∙ among.there in
-              let goes : GoesOn (progress_of it.states) (get_or it.works.went.more among.place w).job
+              let goes : GoesOn (stages_of it.states) (get_or it.works.went.more among.place w).job
               = it.works.went.whose among.place w (get-below it.works.went.more among.place w there) in
               let same : get_or it.works.went.more among.place w ≡ w
               = get_or_from_slice_get it.works.went.more among.place w w there in
               opening-own plan (length floors) i it.states it.starts w.job
-              (subst (λ (x : Waited). GoesOn (progress_of it.states) x.job) same goes)
+              (subst (λ (x : Waited). GoesOn (stages_of it.states) x.job) same goes)
 
           pub member-by : IsMember (map shared floors) final i (shared before) waits
           member-by = record {
@@ -375,31 +373,31 @@ module _ {F : Type 0} (shared : F → Shared) (plan : Plan) (floors : List F) (p
               ∙ it.works.keeps.tally noted-last at on_last
 
           module _ (ends : List JobEnd)
-              (ended : (place : ℕ) (p : Progress) → place % length floors ≡ i → slice_get (progress_of states) place
-              ≡ Some p
-              → end_at ends place ≡ job_end p) where
+              (ended : (place : ℕ) (s : Stage) → place % length floors ≡ i → slice_get (stages_of states) place
+              ≡ Some s
+              → end_at ends place ≡ job_end s.progress) where
             pub bounds-by : (at : ℕ) → HasPermits (kind_at final at)
                 → (take_steps (is_own_done (length floors) i ends) at 0 plan.jobs
                 ≤ sum_in takes (shared before).number (seen_at final at))
                 × (sum_in takes (shared before).number (seen_at final at)
-                ≤ take_steps (is_own (length floors) i) at 0 plan.jobs)
+                ≤ take_tries (is_own (length floors) i) at 0 plan.jobs)
             bounds-by at permits =
-                let first_long : length (progress_of it.states) ≡ length plan.jobs
-                = length-map it.states (λ (s : JobState). s.progress) ∙ it.starts.long in
-                let last_long : length (progress_of states) ≡ length plan.jobs
-                = length-map states (λ (s : JobState). s.progress) ∙ it.works.long in
+                let first_long : length (stages_of it.states) ≡ length plan.jobs
+                = length-map it.states (λ (s : JobState). stage_of s) ∙ it.starts.long in
+                let last_long : length (stages_of states) ≡ length plan.jobs
+                = length-map states (λ (s : JobState). stage_of s) ∙ it.works.long in
                 let here : HasPermits (kind_at (shared before) at)
                 = subst (λ ks. HasPermits (slice_get ks at)) (kinds-are ∙ sym it.opens.kinds) permits in
                 let starts = starting-at plan (length floors) i it.states it.starts in
                 let mine : ℕ → Bool = is_own_done (length floors) i ends in
                 let least = it.works.went.least noted-first (is_own_done (length floors) i ends) at here in
                 let most = it.works.went.most noted-first at here in
-                let made = done-made plan (length floors) i at ends (progress_of it.states) (progress_of states)
+                let made = done-made plan (length floors) i at ends (stages_of it.states) (stages_of states)
                 first_long last_long starts ended in
-                let none = none-made plan (length floors) i at ends (progress_of it.states) (progress_of states)
+                let none = none-made plan (length floors) i at ends (stages_of it.states) (stages_of states)
                 first_long last_long starts ended in
-                let left = all-left plan (length floors) i at ends (progress_of it.states)
-                (progress_of states) first_long
+                let left = all-left plan (length floors) i at ends (stages_of it.states)
+                (stages_of states) first_long
                 last_long starts ended in
                 let begun = opening-took plan (length floors) i (shared before) it.opens at in (
                   omega (arith, least, made, none, begun, took-is at permits),
@@ -407,21 +405,22 @@ module _ {F : Type 0} (shared : F → Shared) (plan : Plan) (floors : List F) (p
                 )
 
           -- what stands behind the ends of its jobs
-          pub cause-by : (place : ℕ) (job : Job) (p : Progress) → slice_get plan.jobs place ≡ Some job
-              → slice_get (progress_of states) place ≡ Some p
+          pub cause-by : (place : ℕ) (job : Job) (s : Stage) → slice_get plan.jobs place ≡ Some job
+              → slice_get (stages_of states) place ≡ Some s
               → HasCause job place (seeing_all (shared before) final (heard (desk (shared after) waits untold) []))
-              (job_end p)
-          cause-by place job p got_job got =
+              (job_end s.progress)
+          cause-by place job s got_job got =
               let last = it.works.went.caused noted-first
               (opening-caused plan (length floors) i it.states it.starts _) in
-              let now : IsCaused job place (desk (shared after) waits it.gate) p
-              = caused-stays job place it.works.last (desk (shared after) waits it.gate) p it.works.closing.later
+              let now : IsCaused job place (desk (shared after) waits it.gate) s.progress
+              = caused-stays job place it.works.last (desk (shared after) waits it.gate) s.progress
+              it.works.closing.later
               (ap (last_wait place) it.works.keeps.waits) (it.works.keeps.came place)
-              (last.at place job p got_job got) in
+              (last.at place job s got_job got) in
               seen-cause job place (desk (shared after) waits it.gate)
               (seeing_all (shared before) final (heard (desk (shared after) waits untold) [])) kept.before
               (sym number-is)
-              (sym (it.works.closing.later.same.limits ∙ it.works.turns.later.same.limits)) refl refl p now
+              (sym (it.works.closing.later.same.limits ∙ it.works.turns.later.same.limits)) refl refl s.progress now
 
         crew-named : (at n : ℕ) → IsUnnamed n (seen_at final at)
             ⊎ ((i : ℕ) × (f : Shared) × (slice_get (map shared floors) i ≡ Some f) × (n ≡ f.number))
@@ -472,22 +471,23 @@ module _ {F : Type 0} (shared : F → Shared) (plan : Plan) (floors : List F) (p
 
         module _ (ends : List JobEnd) (are : AreEnds (length plan.jobs) own ends) where
           -- how a worker's jobs ended
-          ended-by : (i : ℕ) (states : List JobState) → slice_get own i ≡ Some states → (place : ℕ) (p : Progress)
-              → place % length floors ≡ i → slice_get (progress_of states) place ≡ Some p
-              → end_at ends place ≡ job_end p
-          ended-by i states got_own place p mine got =
+          ended-by : (i : ℕ) (states : List JobState) → slice_get own i ≡ Some states → (place : ℕ) (s : Stage)
+              → place % length floors ≡ i → slice_get (stages_of states) place ≡ Some s
+              → end_at ends place ≡ job_end s.progress
+          ended-by i states got_own place s mine got =
               let its_long : length states ≡ length plan.jobs = states-long.at i states got_own in
               let below : place < length plan.jobs
               = omega (
                 arith,
-                get-below (progress_of states) place p got,
-                length-map states (λ (s : JobState). s.progress),
+                get-below (stages_of states) place s got,
+                length-map states (λ (s : JobState). stage_of s),
                 its_long,
               ) in
               let there = are.at place below states
               (ap (λ n. slice_get own (place % n)) own-long ∙ ap (slice_get own) mine ∙ got_own) in
-              get_or_from_slice_get ends place (job_end (progress_at (progress_of states) place)) Unfinished there
-              ∙ ap job_end (get_or_from_slice_get (progress_of states) place p (Ended end.Done) got)
+              get_or_from_slice_get ends place (job_end (progress_at (stages_of states) place)) Unfinished there
+              ∙ ap (λ (x : Stage). job_end x.progress)
+              (get_or_from_slice_get (stages_of states) place s done_stage got)
 
           bounded_by : AreBounded plan (map shared floors) final ends
           bounded_by = record { at = at }
@@ -497,7 +497,7 @@ module _ {F : Type 0} (shared : F → Shared) (plan : Plan) (floors : List F) (p
                   → (take_steps (is_own_done (length (map shared floors)) i ends) q 0 plan.jobs
                   ≤ sum_in takes f.number (seen_at final q))
                   × (sum_in takes f.number (seen_at final q)
-                  ≤ take_steps (is_own (length (map shared floors)) i) q 0 plan.jobs)
+                  ≤ take_tries (is_own (length (map shared floors)) i) q 0 plan.jobs)
               at i f q got_f permits =
                   let back_to = map-back shared floors i f got_f in
                   let it = went i back_to.0 back_to.1 in
@@ -505,7 +505,7 @@ module _ {F : Type 0} (shared : F → Shared) (plan : Plan) (floors : List F) (p
                   let bounds = bounds-by i back_to.0 it.0 it.1 it.2 it.6 kept ends (ended-by i it.1 it.4) q permits in
                   let Bounds : ℕ → Shared → Type 0 = λ n x.
                   (take_steps (is_own_done n i ends) q 0 plan.jobs ≤ sum_in takes x.number (seen_at final q))
-                  × (sum_in takes x.number (seen_at final q) ≤ take_steps (is_own n i) q 0 plan.jobs) in
+                  × (sum_in takes x.number (seen_at final q) ≤ take_tries (is_own n i) q 0 plan.jobs) in
                   subst (λ x. Bounds (length (map shared floors)) x) back_to.2
                   (subst (λ n. Bounds n (shared back_to.0)) (sym many) bounds)
 
@@ -522,18 +522,18 @@ module _ {F : Type 0} (shared : F → Shared) (plan : Plan) (floors : List F) (p
               let number : g.number ≡ (shared before).number = works.closing.later.same.number
               ∙ works.turns.later.same.number in
               let kept : IsKeptIn final g = kept-at i after (ap (λ l. slice_get l i) (sym is) ∙ it.3) in
-              let begun : progress_of it.6.states ≡ dealt plan (length floors) i
-              = progress-dealt plan (length floors) i it.6.states it.6.starts in
+              let begun : stages_of it.6.states ≡ dealt plan (length floors) i
+              = stages-dealt plan (length floors) i it.6.states it.6.starts in
               record {
                 answers = works.turns.answers;
                 after_last = works.closing.answers;
-                progress = progress_of states;
+                stages = stages_of states;
                 mid = heard works.last works.closing.answers;
                 end = heard (desk g it.2 untold) [];
                 turns = ap (λ p. turns_of plan plan.turns p
                     (heard (desk (shared before) [] untold) (works.turns.answers ++ works.closing.answers))) (sym begun)
                     ∙ works.turns.plays works.closing.answers;
-                closing = ap (λ l. close_all plan (progress_of states) (heard works.last l))
+                closing = ap (λ l. close_all plan (stages_of states) (heard works.last l))
                     (sym (append-nil works.closing.answers)) ∙ works.closing.plays [];
                 all_used = refl;
                 of_its_kind = refl;
@@ -546,15 +546,15 @@ module _ {F : Type 0} (shared : F → Shared) (plan : Plan) (floors : List F) (p
                     (kinds-many lines lined)
                     (lined-by lines lined) i it.2 it.5 k line got_line (ap (λ n. line.job % n) many ∙ mine);
                 causes = λ place job got_job mine.
-                    let there : (p : Progress) × (slice_get (progress_of it.1) place ≡ Some p)
-                    = get-there (progress_of it.1) place
+                    let there : (s : Stage) × (slice_get (stages_of it.1) place ≡ Some s)
+                    = get-there (stages_of it.1) place
                     (omega (
                       arith,
                       get-below plan.jobs place job got_job,
-                      length-map it.1 (λ (s : JobState). s.progress),
+                      length-map it.1 (λ (s : JobState). stage_of s),
                       it.6.works.long,
                     )) in
-                    let ended : end_at ends place ≡ job_end there.0
+                    let ended : end_at ends place ≡ job_end there.0.progress
                     = ended-by ends are i it.1 it.4 place there.0 mine there.1 in
                     subst (HasCause job place (seeing_all (shared before) final (heard (desk g it.2 untold) [])))
                     (sym ended)

@@ -13,9 +13,13 @@ pub mod Parties
 pub mod Moving
 pub mod StepNeeds
 pub mod StepAdds
+pub mod GoingBack
 pub mod StepCalls
 pub mod WaitCalls
 pub mod Acting
+pub mod InTurn
+pub mod Retrying
+pub mod GivingUp
 pub mod Giving
 pub mod Needing
 pub mod Coursing

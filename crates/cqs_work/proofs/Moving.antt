@@ -1,5 +1,5 @@
 -- What a call changes for its job alone, and what it leaves of what the jobs need.
-use Rattle.std.proofs.Common.{◌≡◌, ◌≢◌, ◌⊎◌, inl, inr, ℕ, ◌+◌, ◌-◌, ◌<◌, ◌≤◌, Bool, true, false, cond, nat_lt, List, [], ◌∷◌, ◌++◌, Option, Some, None, length, set, get_or, slice_get, count_by, refl, sym, ap, subst, ◌∙◌, lt-ltb, le-ltb, arith}
+use Rattle.std.proofs.Common.{◌≡◌, ◌≢◌, ◌⊎◌, inl, inr, ℕ, ◌+◌, ◌-◌, ◌<◌, ◌≤◌, Bool, true, false, cond, List, [], ◌∷◌, ◌++◌, Option, Some, None, length, set, get_or, slice_get, count_by, refl, sym, ap, subst, ◌∙◌, lt-ltb, le-ltb, arith}
 use Rattle.std.specs.Bool.{if◌then◌else◌}
 use Rattle.std.proofs.lemmas.Bool.{cases_eq, cases_lt}
 use Rattle.std.proofs.lemmas.List.{get_or-set_other, length-set}
@@ -18,20 +18,20 @@ use Rattle.cqs_turns_report.proofs.ArrivalMoves.{arrived-here, arrived-else, has
 use Rattle.cqs_turns_report.proofs.Moved.{MayWait, may-take, may-await, may-arrive, moves-room, arrivals-cons, waits-cons}
 use Rattle.cqs_floor_shared.specs.Shared.{parties_in, with_parties}
 use Rattle.cqs_floor_shared.specs.Calls.{board_given}
-use Rattle.cqs_work.specs.Needs.{waits_in, parties_for, comes_to}
+use Rattle.cqs_work.specs.Needs.{IsPartyPlace, waits_in, parties_for, comes_to}
 use Rattle.cqs_work.specs.Doing.{AreSameBut, Moves}
-use Rattle.cqs_work.proofs.Parties.{comes-fewer, comes-here, comes-elsewhere, parties-here, parties-elsewhere}
+use Rattle.cqs_work.proofs.Parties.{comes-fewer, comes-here, comes-elsewhere, parties-here, parties-elsewhere, place-stays}
 
-but-same : {X : Type 0} (place : ℕ) (d : X) (xs : List X) → AreSameBut place d xs xs
+pub but-same : {X : Type 0} (place : ℕ) (d : X) (xs : List X) → AreSameBut place d xs xs
 but-same place d xs = record { long = refl; at = λ j other. refl }
 
-but-set : {X : Type 0} (place : ℕ) (d : X) (xs : List X) (x : X) → AreSameBut place d xs (set xs place x)
+pub but-set : {X : Type 0} (place : ℕ) (d : X) (xs : List X) (x : X) → AreSameBut place d xs (set xs place x)
 but-set place d xs x = record {
   long = length-set xs place x;
   at = λ j other. get_or-set_other xs place j x d other;
 }
 
-but-then : {X : Type 0} (place : ℕ) (d : X) (xs ys zs : List X) → AreSameBut place d xs ys
+pub but-then : {X : Type 0} (place : ℕ) (d : X) (xs ys zs : List X) → AreSameBut place d xs ys
     → AreSameBut place d ys zs → AreSameBut place d xs zs
 but-then place d xs ys zs first second = record {
   long = second.long ∙ first.long;
@@ -54,6 +54,7 @@ moves-fewer place b parties steps left fewer fewer_arrivals = record {
         comes-fewer round (round_of b place at) (count_by (is_arrival at) left) (count_by (is_arrival at) steps)
             (fewer_arrivals at),
       );
+  rows = λ at round there. there;
 }
 
 pub moves-none : (place : ℕ) (b : PlainFloor) (parties : List (List ℕ)) (steps : List Step)
@@ -84,6 +85,7 @@ moves-on place b p steps c q left d r last first second = record {
   rounds = but-then place [] b.rounds c.rounds d.rounds first.rounds second.rounds;
   room = λ at. omega (arith, first.room at, second.room at);
   comes = λ at round. omega (arith, first.comes at round, second.comes at round);
+  rows = λ at round there. second.rows at round (first.rows at round there);
 }
 
 -- where the job's rounds stay
@@ -91,9 +93,10 @@ moves-kept : (place : ℕ) (b : PlainFloor) (p : List (List ℕ)) (steps : List 
     (left : List Step) → c.kinds ≡ b.kinds → AreSameBut place None b.waits c.waits → AreSameBut place [] b.holds c.holds
     → c.rounds ≡ b.rounds → ((at : ℕ) → room_at b at + waits_in at left ≤ room_at c at + waits_in at steps)
     → ((at round : ℕ) → parties_in p at round ≤ parties_in q at round)
+    → ((at round : ℕ) → IsPartyPlace p at round → IsPartyPlace q at round)
     → ((at : ℕ) → count_by (is_arrival at) left ≤ count_by (is_arrival at) steps)
     → Moves place b p steps c q left
-moves-kept place b p steps c q left kinds waits holds same room parties fewer = record {
+moves-kept place b p steps c q left kinds waits holds same room parties rows fewer = record {
   kinds = kinds;
   waits = waits;
   holds = holds;
@@ -106,6 +109,7 @@ moves-kept place b p steps c q left kinds waits holds same room parties fewer = 
       let less = comes-fewer round (round_of b place at) (count_by (is_arrival at) left)
       (count_by (is_arrival at) steps) (fewer at) in
       omega (arith, moved, less, parties at round);
+  rows = rows;
 }
 
 -- a step that may wait and was answered: its room is used up
@@ -121,7 +125,8 @@ module _ (place at : ℕ) (b : PlainFloor) (p : List (List ℕ)) (step : Step) (
   pub moves-turned : Moves place b p (step ∷ rest) (with_less_room b at) p []
   moves-turned =
       moves-kept place b p (step ∷ rest) (with_less_room b at) p [] refl (but-same place None b.waits)
-      (but-same place [] b.holds) refl (λ q. omega (arith, room-less q)) (λ q r. omega arith) (λ q. omega arith)
+      (but-same place [] b.holds) refl (λ q. omega (arith, room-less q)) (λ q r. omega arith)
+      (λ q r there. there) (λ q. omega arith)
 
 pub moves-taken : (place at : ℕ) (b : PlainFloor) (p : List (List ℕ)) (answer : FloorTake) (rest : List Step)
     → 0 < room_at b at → Moves place b p (Take at ∷ rest) (after_take b at place answer) p rest
@@ -129,12 +134,13 @@ moves-taken place at b p (Now element) rest some =
     moves-kept place b p (Take at ∷ rest) (after_take b at place (Now element)) p rest refl
     (but-same place None b.waits)
     (but-set place [] b.holds (holds_of b place ++ record { at = at; element = element } ∷ [])) refl
-    (room-less place at b p (Take at) rest (may-take at) some) (λ q r. omega arith)
+    (room-less place at b p (Take at) rest (may-take at) some) (λ q r. omega arith) (λ q r there. there)
     (fewer-arrivals place at b p (Take at) rest (may-take at) some)
 moves-taken place at b p (Waits number) rest some =
     moves-kept place b p (Take at ∷ rest) (after_take b at place (Waits number)) p rest refl
     (but-set place None b.waits (Some (record { at = at; round = 0; number = number })))
     (but-same place [] b.holds) refl (room-less place at b p (Take at) rest (may-take at) some) (λ q r. omega arith)
+    (λ q r there. there)
     (fewer-arrivals place at b p (Take at) rest (may-take at) some)
 
 pub moves-waited : (place at : ℕ) (b : PlainFloor) (p : List (List ℕ)) (answer : FloorTake) (rest : List Step)
@@ -143,11 +149,13 @@ moves-waited place at b p (Now element) rest some =
     moves-kept place b p (Await at ∷ rest) (after_wait b at place (Now element)) p rest refl
     (but-same place None b.waits)
     (but-same place [] b.holds) refl (room-less place at b p (Await at) rest (may-await at) some) (λ q r. omega arith)
+    (λ q r there. there)
     (fewer-arrivals place at b p (Await at) rest (may-await at) some)
 moves-waited place at b p (Waits number) rest some =
     moves-kept place b p (Await at ∷ rest) (after_wait b at place (Waits number)) p rest refl
     (but-set place None b.waits (Some (record { at = at; round = 0; number = number })))
     (but-same place [] b.holds) refl (room-less place at b p (Await at) rest (may-await at) some) (λ q r. omega arith)
+    (λ q r there. there)
     (fewer-arrivals place at b p (Await at) rest (may-await at) some)
 
 -- a give, wherever it went
@@ -156,6 +164,7 @@ pub moves-given : (place at : ℕ) (b : PlainFloor) (p : List (List ℕ)) (steps
 moves-given place at b p steps =
     moves-kept place b p steps (board_given b at place) p steps refl (but-same place None b.waits)
     (but-set place [] b.holds (without (λ h. h.at) at (holds_of b place))) refl (λ q. omega arith) (λ q r. omega arith)
+    (λ q r there. there)
     (λ q. omega arith)
 
 -- what was waited for came
@@ -173,10 +182,11 @@ module _ (place : ℕ) (b : PlainFloor) (p : List (List ℕ)) (deed : ℕ → �
   moves-came steps true =
       moves-kept place b p steps (record over { holds = set b.holds place newest }) p steps refl
       (but-set place None b.waits None) (but-set place [] b.holds newest) refl (λ q. omega arith) (λ q r. omega arith)
+      (λ q r there. there)
       (λ q. omega arith)
   moves-came steps false =
       moves-kept place b p steps over p steps refl (but-set place None b.waits None) (but-same place [] b.holds) refl
-      (λ q. omega arith) (λ q r. omega arith) (λ q. omega arith)
+      (λ q. omega arith) (λ q r. omega arith) (λ q r there. there) (λ q. omega arith)
 
   came-rounds : (h : Bool) → (came h).rounds ≡ b.rounds
   came-rounds true = refl
@@ -210,26 +220,10 @@ comes-none at round next = go (cases_lt round next)
     go (inl below) = rw (lt-ltb round next below) refl
     go (inr past) = rw (le-ltb round next past, le-ltb round (next + 0) (omega (arith, past))) refl
 
--- a wait is gone, and with it an arrival, of a job that makes no more steps
-moves-gone : (place : ℕ) (b : PlainFloor) (p q : List (List ℕ)) (wait : Option JobWait)
-    → ((at round : ℕ) → parties_in p at round ≤ parties_in q at round)
-    → Moves place b p [] (with_left b place wait) q []
-moves-gone place b p q None more =
-    moves-kept place b p [] b q [] refl (but-same place None b.waits) (but-same place [] b.holds) refl
-    (λ at. omega arith) more (λ at. omega arith)
-moves-gone place b p q (Some wait) more = record {
-  kinds = refl;
-  waits = but-set place None b.waits None;
-  holds = but-same place [] b.holds;
-  rounds = back (is_barrier_in b.kinds wait.at);
-  room = λ at. omega arith;
-  comes = λ at round. omega (
-    arith,
-    more at round,
-    comes-none at round (round_of (with_left b place (Some wait)) place at),
-    comes-none at round (round_of b place at),
-  );
-}
+-- the rounds of the others, where a job takes its arrival back
+pub rounds-back : (place : ℕ) (b : PlainFloor) (wait : JobWait)
+    → AreSameBut place [] b.rounds (with_left b place (Some wait)).rounds
+rounds-back place b wait = back (is_barrier_in b.kinds wait.at)
   where
     row : List ℕ
     row = set (own_rounds b place) wait.at wait.round
@@ -238,10 +232,34 @@ moves-gone place b p q (Some wait) more = record {
     back true = but-set place [] b.rounds row
     back false = but-same place [] b.rounds
 
+-- a wait is gone, and with it an arrival, of a job that makes no more steps
+moves-gone : (place : ℕ) (b : PlainFloor) (p q : List (List ℕ)) (wait : Option JobWait)
+    → ((at round : ℕ) → parties_in p at round ≤ parties_in q at round)
+    → ((at round : ℕ) → IsPartyPlace p at round → IsPartyPlace q at round)
+    → Moves place b p [] (with_left b place wait) q []
+moves-gone place b p q None more rows =
+    moves-kept place b p [] b q [] refl (but-same place None b.waits) (but-same place [] b.holds) refl
+    (λ at. omega arith) more rows (λ at. omega arith)
+moves-gone place b p q (Some wait) more rows = record {
+  kinds = refl;
+  waits = but-set place None b.waits None;
+  holds = but-same place [] b.holds;
+  rounds = rounds-back place b wait;
+  room = λ at. omega arith;
+  comes = λ at round. omega (
+    arith,
+    more at round,
+    comes-none at round (round_of (with_left b place (Some wait)) place at),
+    comes-none at round (round_of b place at),
+  );
+  rows = rows;
+}
+
 pub moves-left : (place : ℕ) (b : PlainFloor) (p q : List (List ℕ))
     → ((at round : ℕ) → parties_in p at round ≤ parties_in q at round)
+    → ((at round : ℕ) → IsPartyPlace p at round → IsPartyPlace q at round)
     → Moves place b p [] (after_leave b place Gone) q []
-moves-left place b p q more = moves-gone place b p q (wait_of b place) more
+moves-left place b p q more rows = moves-gone place b p q (wait_of b place) more rows
 
 pub moves-late : (place : ℕ) (b : PlainFloor) (p : List (List ℕ)) (element : ℕ) (steps : List Step)
     → Moves place b p steps (after_leave b place (Late element)) p steps
@@ -322,6 +340,7 @@ module _ (place at : ℕ) (b : PlainFloor) (p : List (List ℕ)) (rest : List St
     rounds = but-set place [] b.rounds (set (own_rounds b place) at (first + 1));
     room = room-less place at b p (Arrive at) rest (may-arrive at) some;
     comes = comes-at (after_arrive b at place (Now element)) refl;
+    rows = λ q r there. place-stays p at first (parties_in p at first - 1) q r there;
   }
   moves-arrived (Waits number) = record {
     kinds = refl;
@@ -330,4 +349,5 @@ module _ (place at : ℕ) (b : PlainFloor) (p : List (List ℕ)) (rest : List St
     rounds = but-set place [] b.rounds (set (own_rounds b place) at (first + 1));
     room = room-less place at b p (Arrive at) rest (may-arrive at) some;
     comes = comes-at (after_arrive b at place (Waits number)) refl;
+    rows = λ q r there. place-stays p at first (parties_in p at first - 1) q r there;
   }

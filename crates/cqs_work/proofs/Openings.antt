@@ -30,32 +30,39 @@ use Rattle.cqs_work.specs.Courses.{AreCaused, GoesOn}
 use Rattle.cqs_work.specs.Desk.{Desk, desk}
 use Rattle.cqs_work.specs.Gated.{Gated}
 use Rattle.cqs_work.specs.Later.{IsSound}
-use Rattle.cqs_work.specs.Needs.{IsInRounds, AreProvided}
+use Rattle.cqs_work.specs.Needs.{IsInRounds, AreProvided, CanGoBackIn}
 use Rattle.cqs_work.specs.Noted.{IsNoted}
 use Rattle.cqs_work.specs.Takes.{takes, took}
-use Rattle.cqs_work.specs.Opening.{starting, dealt, IsStarting, AreStarting, IsOpening}
-use Rattle.cqs_work.specs.Works.{progress_of, RunsOn}
+use Rattle.cqs_work.specs.Opening.{starting_stage, starting, dealt, IsStarting, AreStarting, IsOpening}
+use Rattle.cqs_work.specs.Works.{RunsOn}
 use Rattle.cqs_work.proofs.Nothing.{nothing-unnamed, nothing-adds, nothing-draws}
 use Rattle.cqs_work.proofs.Turning.{other-ready}
+use Rattle.cqs_work.specs.Stages.{Stage, stage, stage_of, stages_of, done_stage}
+use Rattle.cqs_turns_report.specs.declared.states.Patience.{Patience}
+use Rattle.cqs_turns_report.specs.Machine.{fresh}
+
+-- the stage of a job that is so far, and as patient
+stage-as : (p q : Progress) (x y : Patience) → p ≡ q → x ≡ y → stage p x ≡ stage q y
+stage-as p q x y far patient = ap (λ n. stage n x) far ∙ ap (stage q) patient
 
 -- what the worker's code keeps is how far the plan's jobs are dealt to it
-pub progress-dealt : (plan : Plan) (workers worker : ℕ) (states : List JobState)
-    → AreStarting (length plan.jobs) workers worker states → progress_of states ≡ dealt plan workers worker
-progress-dealt plan workers worker states starts =
-    ext_get_or (Ended end.Done) (progress_of states) (dealt plan workers worker)
-    (length-map states (λ (s : JobState). s.progress) ∙ starts.long
-    ∙ sym (length-map-range_with_len (starting workers worker) 0 (length plan.jobs)))
-    (λ i below. at i (omega (arith, below, length-map states (λ (s : JobState). s.progress))))
+pub stages-dealt : (plan : Plan) (workers worker : ℕ) (states : List JobState)
+    → AreStarting (length plan.jobs) workers worker states → stages_of states ≡ dealt plan workers worker
+stages-dealt plan workers worker states starts =
+    ext_get_or done_stage (stages_of states) (dealt plan workers worker)
+    (length-map states (λ (s : JobState). stage_of s) ∙ starts.long
+    ∙ sym (length-map-range_with_len (starting_stage workers worker) 0 (length plan.jobs)))
+    (λ i below. at i (omega (arith, below, length-map states (λ (s : JobState). stage_of s))))
   where
-    at : (i : ℕ) → i < length states → get_or (progress_of states) i (Ended end.Done)
-        ≡ get_or (dealt plan workers worker) i (Ended end.Done)
+    at : (i : ℕ) → i < length states → get_or (stages_of states) i done_stage
+        ≡ get_or (dealt plan workers worker) i done_stage
     at i below =
         let there : (s : JobState) × (slice_get states i ≡ Some s) = get-there states i below in
         let its : IsStarting workers worker i there.0 = starts.each.at i there.0 there.1 in
-        get_or_from_slice_get (progress_of states) i there.0.progress (Ended end.Done)
-        (get-map (λ (s : JobState). s.progress) states i there.0 there.1)
-        ∙ its.progress
-        ∙ sym (get_or-map-range_with_len (starting workers worker) 0 (length plan.jobs) i i (Ended end.Done)
+        get_or_from_slice_get (stages_of states) i (stage_of there.0) done_stage
+        (get-map (λ (s : JobState). stage_of s) states i there.0 there.1)
+        ∙ stage-as there.0.progress (starting workers worker i) there.0.patience fresh its.progress its.patience
+        ∙ sym (get_or-map-range_with_len (starting_stage workers worker) 0 (length plan.jobs) i i done_stage
         (omega (arith, below, starts.long)) (omega arith))
 
 pub map-back : {X Y : Type 0} (h : X → Y) (xs : List X) (i : ℕ) (y : Y) → slice_get (map h xs) i ≡ Some y
@@ -108,6 +115,11 @@ module _ (plan : Plan) (workers worker : ℕ) (f : Shared) (runnable : IsRunnabl
       ∙ running.rounds place job (Stepping 0) got (get-replicate (length plan.jobs) place (Stepping 0) below) at
   rounds-by place job got false = tt
 
+  back-by : (place : ℕ) (job : Job) (own : Bool)
+      → CanGoBackIn f place job.steps (if own then Stepping 0 else Ended end.Done)
+  back-by place job true = tt
+  back-by place job false = tt
+
   module _ (states : List JobState) (starts : AreStarting (length plan.jobs) workers worker states) where
     -- a worker whose floor is this can begin
     pub opening-runs : RunsOn plan f states
@@ -124,7 +136,10 @@ module _ (plan : Plan) (workers worker : ℕ) (f : Shared) (runnable : IsRunnabl
           let its : state.progress ≡ starting workers worker place = (starts.each.at place state got).progress in
           subst (IsInRounds f.board place job.steps) (sym its)
           (rounds-by place job got_job (place % workers == worker));
-      provided = subst (AreProvided f plan.jobs) (sym (progress-dealt plan workers worker states starts))
+      back = λ place job state got_job got.
+          let its : state.progress ≡ starting workers worker place = (starts.each.at place state got).progress in
+          subst (CanGoBackIn f place job.steps) (sym its) (back-by place job (place % workers == worker));
+      provided = subst (AreProvided f plan.jobs) (sym (stages-dealt plan workers worker states starts))
           opens.provided;
       kept = record {
         held = λ place state got.
@@ -179,16 +194,23 @@ module _ (plan : Plan) (workers worker : ℕ) (f : Shared) (opens : IsOpening pl
 -- how far a job is that was dealt
 module _ (plan : Plan) (workers worker : ℕ) (states : List JobState)
     (starts : AreStarting (length plan.jobs) workers worker states) where
-  pub starting-at : (place : ℕ) (p : Progress) → slice_get (progress_of states) place ≡ Some p
-      → p ≡ starting workers worker place
-  starting-at place p got = go (map-back (λ (s : JobState). s.progress) states place p got)
+  pub starting-at : (place : ℕ) (s : Stage) → slice_get (stages_of states) place ≡ Some s
+      → s ≡ starting_stage workers worker place
+  starting-at place s got = go (map-back (λ (x : JobState). stage_of x) states place s got)
     where
-      go : (s : JobState) × (slice_get states place ≡ Some s) × (s.progress ≡ p) → p ≡ starting workers worker place
-      go (s, there, is) = sym is ∙ (starts.each.at place s there).progress
+      go : (x : JobState) × (slice_get states place ≡ Some x) × (stage_of x ≡ s)
+          → s ≡ starting_stage workers worker place
+      go (x, there, is) =
+          let its : IsStarting workers worker place x = starts.each.at place x there in
+          sym is ∙ stage-as x.progress (starting workers worker place) x.patience fresh its.progress its.patience
 
-  pub opening-caused : (d : Desk) → AreCaused plan d (progress_of states)
+  progress-at : (place : ℕ) (s : Stage) → slice_get (stages_of states) place ≡ Some s
+      → s.progress ≡ starting workers worker place
+  progress-at place s got = ap (λ (x : Stage). x.progress) (starting-at place s got)
+
+  pub opening-caused : (d : Desk) → AreCaused plan d (stages_of states)
   opening-caused d = record {
-    at = λ place job p got_job got. subst (IsCaused job place d) (sym (starting-at place p got))
+    at = λ place job s got_job got. subst (IsCaused job place d) (sym (progress-at place s got))
         (go job place (place % workers == worker));
   }
     where
@@ -198,7 +220,7 @@ module _ (plan : Plan) (workers worker : ℕ) (states : List JobState)
       go job place false = tt
 
   -- a job that goes on is the worker's
-  pub opening-own : (place : ℕ) → GoesOn (progress_of states) place → place % workers ≡ worker
+  pub opening-own : (place : ℕ) → GoesOn (stages_of states) place → place % workers ≡ worker
   opening-own place goes =
       go (cases_eq (place % workers) worker)
     where
@@ -206,5 +228,5 @@ module _ (plan : Plan) (workers worker : ℕ) (states : List JobState)
       go (inl own) = own
       go (inr other) =
           let no_own : place % workers == worker ≡ false = ne_eqb (place % workers) worker other in
-          let ended : goes.p ≡ Ended end.Done = starting-at place goes.p goes.there ∙ rw no_own refl in
+          let ended : goes.s.progress ≡ Ended end.Done = progress-at place goes.s goes.there ∙ rw no_own refl in
           absurd (goes.going (subst IsOver (sym ended) tt))

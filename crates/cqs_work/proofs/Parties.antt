@@ -3,7 +3,7 @@ use Rattle.std.proofs.Common.{◌≡◌, ◌≢◌, ◌⊎◌, inl, inr, ℕ, �
 use Rattle.std.proofs.lemmas.Bool.{cases_eq, cases_lt}
 use Rattle.std.proofs.lemmas.List.{get_or-set_same, get_or-set_other, get_or_past, length-set}
 use Rattle.cqs_floor_shared.specs.Shared.{parties_in, with_parties}
-use Rattle.cqs_work.specs.Needs.{comes_to}
+use Rattle.cqs_work.specs.Needs.{IsPartyPlace, comes_to}
 
 comes-in : (round first n : ℕ) → first ≤ round → round < first + n → comes_to round first n ≡ 1
 comes-in round first n low high =
@@ -124,6 +124,21 @@ module _ (parties : List (List ℕ)) (at round : ℕ) where
       → parties_in parties q r ≤ parties_in (with_parties parties at round (parties_in parties at round + 1)) q r
   parties-more q r = more-by q r (cases_eq q at)
 
+-- where there is a party there is a place for it
+pub party-place : (parties : List (List ℕ)) (at round : ℕ) → 0 < parties_in parties at round
+    → IsPartyPlace parties at round
+party-place parties at round some = record {
+  there = outside (cases_lt at (length parties));
+  inside = place-there (get_or parties at []) round some;
+}
+  where
+    outside : (at < length parties) ⊎ (length parties ≤ at) → at < length parties
+    outside (inl below) = below
+    outside (inr past) =
+        let nothing : get_or (get_or parties at []) round 0 ≡ 0
+        = ap (λ l. get_or l round 0) (get_or_past parties at [] past) in
+        absurd (omega (arith, some, nothing))
+
 -- one party is taken from where there is one
 pub parties-here : (parties : List (List ℕ)) (at round : ℕ) → 0 < parties_in parties at round
     → parties_in (with_parties parties at round (parties_in parties at round - 1)) at round
@@ -131,17 +146,9 @@ pub parties-here : (parties : List (List ℕ)) (at round : ℕ) → 0 < parties_
 parties-here parties at round some =
     let row : List ℕ = get_or parties at [] in
     let new : List ℕ = set row round (get_or row round 0 - 1) in
-    let inner : round < length row = place-there row round some in
-    let outer : at < length parties = outside (cases_lt at (length parties)) in
-    ap (λ l. get_or l round 0) (get_or-set_same parties at new [] outer)
-    ∙ get_or-set_same row round (get_or row round 0 - 1) 0 inner
-  where
-    outside : (at < length parties) ⊎ (length parties ≤ at) → at < length parties
-    outside (inl below) = below
-    outside (inr past) =
-        let none : get_or parties at [] ≡ [] = get_or_past parties at [] past in
-        let nothing : get_or (get_or parties at []) round 0 ≡ 0 = ap (λ l. get_or l round 0) none in
-        absurd (omega (arith, some, nothing))
+    let place : IsPartyPlace parties at round = party-place parties at round some in
+    ap (λ l. get_or l round 0) (get_or-set_same parties at new [] place.there)
+    ∙ get_or-set_same row round (get_or row round 0 - 1) 0 place.inside
 
 -- and nowhere else
 module _ (parties : List (List ℕ)) (at round many : ℕ) where
@@ -172,3 +179,33 @@ module _ (parties : List (List ℕ)) (at round many : ℕ) where
       → parties_in (with_parties parties at round many) q r ≡ parties_in parties q r
   parties-elsewhere q r (inl other) = ap (λ l. get_or l r 0) (get_or-set_other parties at q new_row [] other)
   parties-elsewhere q r (inr other) = other-by q r other (cases_eq q at)
+
+-- the place stays, whatever parties are written
+pub place-stays : (parties : List (List ℕ)) (at round many q r : ℕ) → IsPartyPlace parties q r
+    → IsPartyPlace (with_parties parties at round many) q r
+place-stays parties at round many q r place = record {
+  there = omega (arith, place.there, length-set parties at row);
+  inside = inner (cases_eq q at);
+}
+  where
+    row : List ℕ
+    row = set (get_or parties at []) round many
+
+    inner : (q ≡ at) ⊎ (q ≢ at) → r < length (get_or (set parties at row) q [])
+    inner (inl same) =
+        let here : at < length parties = omega (arith, place.there, same) in
+        let long : length (get_or (set parties at row) q []) ≡ length (get_or parties q [])
+        = ap (λ n. length (get_or (set parties at row) n [])) same
+        ∙ ap length (get_or-set_same parties at row [] here) ∙ length-set (get_or parties at []) round many
+        ∙ ap (λ n. length (get_or parties n [])) (sym same) in
+        omega (arith, place.inside, long)
+    inner (inr other) = omega (arith, place.inside, ap length (get_or-set_other parties at q row [] other))
+
+-- a party is given back where there is a place
+pub party-back : (parties : List (List ℕ)) (at round : ℕ) → IsPartyPlace parties at round
+    → parties_in (with_parties parties at round (parties_in parties at round + 1)) at round
+    ≡ parties_in parties at round + 1
+party-back parties at round place =
+    let row : List ℕ = get_or parties at [] in
+    ap (λ l. get_or l round 0) (get_or-set_same parties at (set row round (get_or row round 0 + 1)) [] place.there)
+    ∙ get_or-set_same row round (get_or row round 0 + 1) 0 place.inside

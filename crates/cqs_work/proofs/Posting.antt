@@ -7,9 +7,7 @@ use Rattle.cqs_core.specs.Numbered.{EachAt}
 use Rattle.cqs_core.specs.declared.Memory.{Memory}
 use Rattle.cqs_core.proofs.EachAtLemmas.{EachAt-push}
 use Rattle.cqs_core.proofs.Places.{get-append_left, get-append_below, get-push_at, get-below}
-use Rattle.cqs_turns_report.specs.declared.states.End.TheVariants as end
 use Rattle.cqs_turns_report.specs.declared.states.JobState.{JobState}
-use Rattle.cqs_turns_report.specs.declared.states.Progress.TheVariants.{Ended}
 use Rattle.cqs_turns_report.proofs.Mapped.{get-map}
 use Rattle.cqs_work.specs.declared.ends.JobEnd.{JobEnd}
 use Rattle.cqs_work.specs.declared.waits.Waited.{Waited}
@@ -17,8 +15,8 @@ use Rattle.cqs_work.specs.declared.works.Post.{Post}
 use Rattle.cqs_work.specs.declared.works.Worker.{Worker}
 use Rattle.cqs_work.specs.Ends.{job_end}
 use Rattle.cqs_work.specs.Opening.{IsStarting, AreStarting, ArePosts}
-use Rattle.cqs_work.specs.Works.{progress_of}
-use Rattle.cqs_work.specs.Worked.{IsParted, AreParted, progress_at, AreEnds}
+use Rattle.cqs_work.specs.Stages.{Stage, stage_of, stages_of, progress_at, done_stage}
+use Rattle.cqs_work.specs.Worked.{IsParted, AreParted, AreEnds}
 
 pub starting-none : (workers worker : ℕ) (states : List JobState) → states ≡ [] → AreStarting 0 workers worker states
 starting-none workers worker states none = rw none (record
@@ -146,22 +144,22 @@ ends-none states ends none = rw none (record { long = refl; at = λ place below 
 pub ends-push : (place : ℕ) (states : List (List JobState)) (ends : List JobEnd) (e : JobEnd)
     → AreEnds place states ends
     → ((own : List JobState) → slice_get states (place % length states) ≡ Some own
-    → e ≡ job_end (progress_at (progress_of own) place)) → AreEnds (place + 1) states (ends ++ e ∷ [])
+    → e ≡ job_end (progress_at (stages_of own) place)) → AreEnds (place + 1) states (ends ++ e ∷ [])
 ends-push place states ends e are here = record {
   long = omega (arith, length_push ends e, are.long);
   at = λ p below own got. go p below own got (cases_lt p place);
 }
   where
     go : (p : ℕ) → p < place + 1 → (own : List JobState) → slice_get states (p % length states) ≡ Some own
-        → (p < place) ⊎ (place ≤ p) → slice_get (ends ++ e ∷ []) p ≡ Some (job_end (progress_at (progress_of own) p))
+        → (p < place) ⊎ (place ≤ p) → slice_get (ends ++ e ∷ []) p ≡ Some (job_end (progress_at (stages_of own) p))
     go p below own got (inl before) =
-        get-append_left ends (e ∷ []) p (job_end (progress_at (progress_of own) p)) (are.at p before own got)
+        get-append_left ends (e ∷ []) p (job_end (progress_at (stages_of own) p)) (are.at p before own got)
     go p below own got (inr past) =
         let now : p ≡ place = omega (arith, below, past) in
         let there : slice_get states (place % length states) ≡ Some own
         = ap (λ n. slice_get states (n % length states)) (sym now) ∙ got in
         get-push_at ends e p (now ∙ sym are.long)
-        ∙ ap Some (here own there ∙ ap (λ n. job_end (progress_at (progress_of own) n)) (sym now))
+        ∙ ap Some (here own there ∙ ap (λ n. job_end (progress_at (stages_of own) n)) (sym now))
 
 -- the next job's end, read off the worker that had it
 pub ends-next : {S : Type 0} (items : S → List JobState) (jobs place workers worker : ℕ) (states : List S) (own : S)
@@ -186,13 +184,14 @@ ends-next {S} items jobs place workers worker states own list d e ends are below
     got_state = slice_get-get_or list place d short
 
     here : (other : List JobState) → slice_get (map items states) (place % length (map items states)) ≡ Some other
-        → e ≡ job_end (progress_at (progress_of other) place)
+        → e ≡ job_end (progress_at (stages_of other) place)
     here other got =
         let mine : slice_get (map items states) worker ≡ Some (items own) = get-map items states worker own own_got in
         let same_some : Some (items own) ≡ Some other
         = sym mine ∙ ap (slice_get (map items states)) (sym at_worker) ∙ got in
         let same : items own ≡ other = cc in
-        let found : get_or (progress_of list) place (Ended end.Done) ≡ (get_or list place d).progress
-        = get_or_from_slice_get (progress_of list) place (get_or list place d).progress (Ended end.Done)
-        (get-map (λ (s : JobState). s.progress) list place (get_or list place d) got_state) in
-        is_end ∙ ap job_end (sym found) ∙ ap (λ l. job_end (progress_at (progress_of l) place)) (is_list ∙ same)
+        let found : progress_at (stages_of list) place ≡ (get_or list place d).progress
+        = ap (λ (s : Stage). s.progress)
+        (get_or_from_slice_get (stages_of list) place (stage_of (get_or list place d)) done_stage
+        (get-map (λ (s : JobState). stage_of s) list place (get_or list place d) got_state)) in
+        is_end ∙ ap job_end (sym found) ∙ ap (λ l. job_end (progress_at (stages_of l) place)) (is_list ∙ same)

@@ -20,7 +20,6 @@ use Rattle.cqs_floor_shared.specs.AnswerEntries.{came_entries}
 use Rattle.cqs_floor_shared.specs.Shared.{kind_at, came_of}
 use Rattle.cqs_floor_shared.specs.Calls.{Takes, Comes}
 use Rattle.cqs_work.specs.Desk.{Desk, with_answer}
-use Rattle.cqs_work.specs.Heard as answer
 use Rattle.cqs_work.specs.Roles.{same}
 use Rattle.cqs_work.specs.Doing.{after_stop}
 use Rattle.cqs_work.specs.declared.waits.Waited.{Waited}

@@ -1,5 +1,5 @@
 -- What a worker's job does with a step, call by call.
-use Rattle.std.proofs.Common.{◌≡◌, ℕ, ◌+◌, ◌<◌, List, [], ◌∷◌, cond, Option, Some, None, take, drop, get_or, slice_get, count_by, eq-eqb, ne_eqb, ◌≢◌, ◌⊎◌, inl, inr, refl, sym, ap, subst, ◌∙◌, arith}
+use Rattle.std.proofs.Common.{◌≡◌, ℕ, ◌+◌, ◌-◌, ◌<◌, List, [], ◌∷◌, cond, Option, Some, None, take, drop, get_or, slice_get, count_by, eq-eqb, ne_eqb, ◌≢◌, ◌⊎◌, inl, inr, refl, sym, ap, subst, ◌∙◌, arith}
 use Rattle.cqs_plan.specs.declared.plans.step.Step.{Step}
 use Rattle.cqs_plan.specs.declared.plans.step.Step.TheVariants.{Take, Give, Down, Await, Arrive, Work}
 use Rattle.cqs_plan.specs.declared.floors.answers.FloorTake.{FloorTake}
@@ -36,6 +36,9 @@ use Rattle.cqs_work.proofs.Accounts.{take-later, wait-later, arrive-later, down-
 use Rattle.cqs_work.proofs.Gating.{told-none}
 use Rattle.cqs_work.proofs.HeardLemmas.{came-is, gave-is, counted-is}
 use Rattle.cqs_work.proofs.Moving.{moves-past, moves-on, moves-turned, moves-taken, moves-waited, moves-given, moves-arrived}
+use Rattle.cqs_work.specs.Needs.{IsPartyPlace, CanGoBackIn}
+use Rattle.cqs_work.proofs.GoingBack.{take-back, wait-back, arrive-back}
+use Rattle.cqs_work.proofs.Parties.{party-place, place-stays}
 use Rattle.cqs_work.proofs.StepNeeds.{made-count, party-some, steps-split, step-ready, step-provided, step-room, rounds-kept, take-resource, wait-resource, give-resource, give-holds}
 use Rattle.cqs_work.proofs.StepAdds.{stop_of, adds-plain, latch-else, round-else, latch-some, round-some, take-adds, else-adds}
 
@@ -48,13 +51,15 @@ module _ {X : Type 0} (a : Actor) (f : Desk) (next : ℕ) (step : Step) (can : C
       → Moves a.place f.floor.board f.floor.parties (step ∷ drop (next + 1) a.job.now.steps) g.floor.board
       g.floor.parties
       (steps_left a.job.now.steps q) → Adds a.job.now a.place f (Stepping next) g q
+      → CanGoBackIn g.floor a.place a.job.now.steps q
       → Did a f (Stepping next) go after g q
-  did hears kinds ready rounds moves adds = record {
+  did hears kinds ready rounds moves adds back = record {
     hears = hears;
     stands = record { kinds = kinds ∙ can.stands.kinds; ready = ready };
     rounds = rounds;
     moves = subst (λ steps. Moves a.place f.floor.board f.floor.parties steps g.floor.board g.floor.parties
         (steps_left a.job.now.steps q)) (sym (steps-split a f.floor next step can its_step)) moves;
+    back = back;
     adds = adds;
   }
 
@@ -96,6 +101,7 @@ take-by a f g next at (Some (Now element)) can its_step comes waits told =
     (step-room a f.floor next (Take at) can its_step at (may-take at))))
     (take-adds a f g next at _ its_step (take-resource a f.floor next at can its_step) (ap (λ c. c.kinds) comes.board)
     comes waits)
+    tt
 take-by a f g next at (Some (Waits number)) can its_step comes waits told =
     let b : PlainFloor = after_take f.floor.board at a.place (Waits number) in
     did a f next (Take at) can its_step (take_step a next at) (made_so (Some (Waiting (next + 1) at 0 number))) g
@@ -118,6 +124,8 @@ take-by a f g next at (Some (Waits number)) can its_step comes waits told =
     (step-room a f.floor next (Take at) can its_step at (may-take at))))
     (take-adds a f g next at _ its_step (take-resource a f.floor next at can its_step) (ap (λ c. c.kinds) comes.board)
     comes waits)
+    (take-back a f.floor next (Take at) can its_step at number (take-resource a f.floor next at can its_step) g.floor
+    comes.board)
 take-by a f g next at None can its_step comes waits told =
     let b : PlainFloor = with_less_room f.floor.board at in
     did a f next (Take at) can its_step (take_step a next at) (made_so (Some (Ended end.Crowded))) g (Ended end.Crowded)
@@ -138,6 +146,7 @@ take-by a f g next at None can its_step comes waits told =
     (may-take at) (step-room a f.floor next (Take at) can its_step at (may-take at))))
     (take-adds a f g next at _ its_step (take-resource a f.floor next at can its_step) (ap (λ c. c.kinds) comes.board)
     comes waits)
+    tt
 
 pub take-did : (a : Actor) (f g : Desk) (next at : ℕ) (got known : Option FloorTake) → CanAct a f.floor (Stepping next)
     → slice_get a.job.now.steps next ≡ Some (Take at) → Takes f.floor at a.place got g.floor
@@ -182,6 +191,7 @@ wait-by a f g next at (Some (Now element)) can its_step comes waits told =
     (latch-some (kind_at f.floor at) (wait-resource a f.floor next at can its_step))
     (latch-else (kind_at f.floor at) (wait-resource a f.floor next at can its_step)) (ap (λ c. c.kinds) comes.board)
     comes waits)
+    tt
 wait-by a f g next at (Some (Waits number)) can its_step comes waits told =
     let b : PlainFloor = after_wait f.floor.board at a.place (Waits number) in
     did a f next (Await at) can its_step (wait_step a next at) (made_so (Some (Waiting (next + 1) at 0 number))) g
@@ -206,6 +216,8 @@ wait-by a f g next at (Some (Waits number)) can its_step comes waits told =
     (latch-some (kind_at f.floor at) (wait-resource a f.floor next at can its_step))
     (latch-else (kind_at f.floor at) (wait-resource a f.floor next at can its_step)) (ap (λ c. c.kinds) comes.board)
     comes waits)
+    (wait-back a f.floor next (Await at) can its_step at number (wait-resource a f.floor next at can its_step) g.floor
+    comes.board)
 wait-by a f g next at None can its_step comes waits told =
     let b : PlainFloor = with_less_room f.floor.board at in
     did a f next (Await at) can its_step (wait_step a next at) (made_so (Some (Ended end.Crowded))) g
@@ -229,6 +241,7 @@ wait-by a f g next at None can its_step comes waits told =
     (latch-some (kind_at f.floor at) (wait-resource a f.floor next at can its_step))
     (latch-else (kind_at f.floor at) (wait-resource a f.floor next at can its_step)) (ap (λ c. c.kinds) comes.board)
     comes waits)
+    tt
 
 pub wait-did : (a : Actor) (f g : Desk) (next at : ℕ) (got known : Option FloorTake) → CanAct a f.floor (Stepping next)
     → slice_get a.job.now.steps next ≡ Some (Await at) → Waits_at f.floor at a.place got g.floor
@@ -309,6 +322,7 @@ module _ (a : Actor) (f : Desk) (next at : ℕ) (can : CanAct a f.floor (Steppin
       (else-adds a f g next at round (Arrive at) _ _ _ its_step (may-arrive at) (λ q. refl)
       (round-some (kind_at f.floor at) round arrives-in) (round-else (kind_at f.floor at) round arrives-in)
       (ap (λ c. c.kinds) comes.board) comes waits)
+      tt
   arrive-by g (Some (Waits number)) comes waits told =
       let b : PlainFloor = after_arrive f.floor.board at a.place (Waits number) in
       did a f next (Arrive at) can its_step (arrive_step a next at)
@@ -330,6 +344,10 @@ module _ (a : Actor) (f : Desk) (next at : ℕ) (can : CanAct a f.floor (Steppin
       (else-adds a f g next at round (Arrive at) _ _ _ its_step (may-arrive at) (λ q. refl)
       (round-some (kind_at f.floor at) round arrives-in) (round-else (kind_at f.floor at) round arrives-in)
       (ap (λ c. c.kinds) comes.board) comes waits)
+      (arrive-back a f.floor next (Arrive at) can its_step at number arrives-in g.floor comes.board
+      (subst (λ ps. IsPartyPlace ps at round) (sym comes.parties)
+      (place-stays f.floor.parties at round (parties_at f.floor at round - 1) at round
+      (party-place f.floor.parties at round arrive-party))))
   arrive-by g None comes waits told =
       let b : PlainFloor = with_less_room f.floor.board at in
       did a f next (Arrive at) can its_step (arrive_step a next at) (made_so (Some (Ended end.Crowded))) g
@@ -350,6 +368,7 @@ module _ (a : Actor) (f : Desk) (next at : ℕ) (can : CanAct a f.floor (Steppin
       (else-adds a f g next at round (Arrive at) _ _ _ its_step (may-arrive at) (λ q. refl)
       (round-some (kind_at f.floor at) round arrives-in) (round-else (kind_at f.floor at) round arrives-in)
       (ap (λ c. c.kinds) comes.board) comes waits)
+      tt
 
   -- the code counts the round from the steps before
   pub arrive-did : (g : Desk) (got known : Option FloorTake) (counted : ℕ) → Arrives f.floor at a.place got g.floor
@@ -395,6 +414,7 @@ down-did a f g next at got can its_step downs waits told =
     (adds-plain a f g next (Down at) (Stepping (next + 1)) its_step refl (λ q. refl) tt
     (call-keeps f at _ g downs.sees (ap (λ c. c.kinds) downs.board)
     (counted-plain f.floor.number got) waits downs.came))
+    tt
 
 -- a give
 pub given-keeps : (place : ℕ) (f g : Desk) (at : ℕ) (got : SharedGive) → Gives f.floor at place got g.floor
@@ -429,6 +449,7 @@ give-did a f g next at got can its_step gives waits told =
     (moves-given a.place at f.floor.board f.floor.parties (drop (next + 1) a.job.now.steps))))
     (adds-plain a f g next (Give at) (Stepping (next + 1)) its_step refl (λ q. refl) tt
     (given-keeps a.place f g at got gives waits))
+    tt
 
 -- work
 pub work-did : (a : Actor) (f : Desk) (next turns : ℕ) → CanAct a f.floor (Stepping next)
@@ -446,3 +467,4 @@ work-did a f next turns can its_step =
     (moves-past a.place f.floor.board f.floor.parties (Work turns) (drop (next + 1) a.job.now.steps))
     (adds-plain a f f next (Work turns) (Working (next + 1) (a.turn + turns)) its_step refl (λ q. refl) tt
     (keeps-none f))
+    tt

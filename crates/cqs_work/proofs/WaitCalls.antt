@@ -1,5 +1,5 @@
 -- What a worker's job does that waits: it looks, or it leaves.
-use Rattle.std.proofs.Common.{◌≡◌, ℕ, ◌≤◌, List, [], ◌∷◌, Bool, true, false, Option, Some, None, drop, get_or, inl, inr, refl, sym, ap, subst, ◌∙◌, arith}
+use Rattle.std.proofs.Common.{◌≡◌, ℕ, ◌+◌, ◌≤◌, List, [], ◌∷◌, Bool, true, false, Option, Some, None, drop, get_or, inl, inr, refl, sym, ap, subst, ◌∙◌, arith}
 use Rattle.cqs_plan.specs.declared.plans.step.Step.{Step}
 use Rattle.cqs_plan.specs.declared.floors.answers.FloorLook.{FloorLook}
 use Rattle.cqs_plan.specs.declared.floors.answers.FloorLook.TheVariants.{Pending, Granted}
@@ -16,7 +16,7 @@ use Rattle.cqs_turns_report.specs.declared.states.Progress.TheVariants.{Stepping
 use Rattle.cqs_turns_report.specs.Machine.{end_of}
 use Rattle.cqs_turns_report.specs.Roles.{role, wait_at}
 use Rattle.cqs_turns_report.proofs.Readied.{after_looking-ready, leave-ready}
-use Rattle.cqs_floor_shared.specs.Shared.{Shared, kind_at, seen_at, came_of, parties_in}
+use Rattle.cqs_floor_shared.specs.Shared.{Shared, kind_at, seen_at, came_of, parties_in, parties_at}
 use Rattle.cqs_floor_shared.specs.Calls.{HasLooked, HasLeft, Leaves, Looks, parties_left, parties_left_at}
 use Rattle.cqs_work.specs.Desk.{Desk}
 use Rattle.cqs_work.specs.Heard as answer
@@ -25,7 +25,7 @@ use Rattle.cqs_work.specs.Doing.{Moves, Stands, CanAct, Did, GaveUp}
 use Rattle.cqs_work.specs.Later.{Later}
 use Rattle.cqs_work.specs.Noted.{IsNoted}
 use Rattle.cqs_work.specs.Causes.{IsInLine, IsCauseOf}
-use Rattle.cqs_work.specs.Adds.{Keeps, EndsSo}
+use Rattle.cqs_work.specs.Adds.{Keeps}
 use Rattle.cqs_work.proofs.Growing.{served-stays}
 use Rattle.cqs_work.proofs.Leaving.{gone-told, late-told}
 use Rattle.cqs_work.proofs.Adding.{call-keeps, looked-plain, left-plain}
@@ -34,7 +34,8 @@ use Rattle.cqs_work.proofs.LeaveAccounts.{leave-later}
 use Rattle.cqs_work.proofs.LookAccounts.{look-later}
 use Rattle.cqs_work.specs.Gated.{HasTold}
 use Rattle.cqs_work.proofs.HeardLemmas.{looked-is, left-is}
-use Rattle.cqs_work.proofs.Parties.{parties-more}
+use Rattle.cqs_work.proofs.Parties.{parties-more, place-stays}
+use Rattle.cqs_work.specs.Needs.{IsPartyPlace}
 use Rattle.cqs_work.proofs.Moving.{moves-none, moves-looked, looked-rounds, moves-left, moves-late}
 
 -- a look
@@ -76,6 +77,10 @@ pending-did a f g next at round number got can looked waits told is =
       rounds = λ q. ap (λ c. round_of c a.place q) looks.board ∙ can.rounds q;
       moves = rw (looks.board, looks.parties) (moves-none a.place f.floor.board f.floor.parties
           (drop next a.job.now.steps));
+      back = record {
+        back = rw looks.board can.back.back;
+        party = rw (looks.board, looks.parties) can.back.party;
+      };
       adds = adds-keeps a.job.now a.place f g p
           (look-later f.floor a.place (wait_at at round number) Pending g.floor looks can.stands.ready.job
           can.stands.ready.waits)
@@ -112,6 +117,7 @@ granted-did a f g next at round number element got can looked waits told is =
       rounds = λ q. ap (λ c. round_of c a.place q) looks.board
           ∙ ap (λ rs. get_or (get_or rs a.place []) q 0) (looked-rounds a.place f.floor.board element) ∙ can.rounds q;
       moves = rw (looks.board, looks.parties) moved;
+      back = tt;
       adds = adds-as a.job.now a.place f g (Stepping next) (Waiting next at round number) (Stepping next) (λ q. refl)
           (λ q. refl) (λ over. over) (λ its. tt)
           (adds-keeps a.job.now a.place f g (Stepping next)
@@ -122,7 +128,7 @@ granted-did a f g next at round number element got can looked waits told is =
     }
 
 -- a leave
-more-left : (k : Option Kind) (f : Shared) (wait : JobWait) (q r : ℕ)
+pub more-left : (k : Option Kind) (f : Shared) (wait : JobWait) (q r : ℕ)
     → parties_in f.parties q r ≤ parties_in (parties_left_at k f wait) q r
 more-left (Some (kind.Rounds parties rounds)) f wait q r = parties-more f.parties wait.at wait.round q r
 more-left (Some (kind.Semaphore permits)) f wait q r = omega arith
@@ -131,24 +137,35 @@ more-left (Some (kind.Pool elements)) f wait q r = omega arith
 more-left (Some (kind.Latch count)) f wait q r = omega arith
 more-left None f wait q r = omega arith
 
+-- a place for parties stays
+pub rows-left : (k : Option Kind) (f : Shared) (wait : JobWait) (q r : ℕ) → IsPartyPlace f.parties q r
+    → IsPartyPlace (parties_left_at k f wait) q r
+rows-left (Some (kind.Rounds parties rounds)) f wait q r there =
+    place-stays f.parties wait.at wait.round (parties_at f wait.at wait.round + 1) q r there
+rows-left (Some (kind.Semaphore permits)) f wait q r there = there
+rows-left (Some kind.Mutex) f wait q r there = there
+rows-left (Some (kind.Pool elements)) f wait q r there = there
+rows-left (Some (kind.Latch count)) f wait q r there = there
+rows-left None f wait q r there = there
+
 leave-moves : (place : ℕ) (f : Shared) (wait : JobWait) (got : FloorLeave)
     → Moves place f.board f.parties [] (after_leave f.board place got) (parties_left f wait got) []
 leave-moves place f wait Gone =
     moves-left place f.board f.parties (parties_left f wait Gone) (more-left (kind_at f wait.at) f wait)
+    (rows-left (kind_at f wait.at) f wait)
 leave-moves place f wait (Late element) = moves-late place f.board f.parties element []
 
-pub leave-did : (a : Actor) (f g : Desk) (at round number : ℕ) (got : FloorLeave) (e : End)
+pub leaves-line : (a : Actor) (f g : Desk) (at round number : ℕ) (got : FloorLeave)
     → Stands a f.floor (Some (wait_at at round number)) [] → HasLeft f.floor a.place got g.floor
-    → g.waits ≡ f.waits → HasTold f.gate g.gate 1 → e ≡ end_of got
-    → GaveUp a f (leave_end a at round number) (ended_so e) g
-leave-did a f g at round number got e stands left waits told is =
+    → g.waits ≡ f.waits → HasTold f.gate g.gate 1
+    → GaveUp a f (leave_end a at round number) (ended_so (end_of got)) g
+leaves-line a f g at round number got stands left waits told =
     let wait : JobWait = wait_at at round number in
     let leaves : Leaves f.floor a.place wait got g.floor = left.at wait stands.ready.waits in
     let moved : Moves a.place f.floor.board f.floor.parties [] (after_leave f.floor.board a.place got)
     (parties_left f.floor wait got) []
     = leave-moves a.place f.floor wait got in
-    let Goal : End → Type 0 = λ x. GaveUp a f (leave_end a at round number) (ended_so x) g in
-    subst Goal (sym is) (record {
+    record {
       hears = record {
         later = leave-later f.floor a.place wait got g.floor leaves stands.ready.job stands.ready.waits;
         answers = answer.left got leaves.stays ∷ [];
@@ -163,7 +180,15 @@ leave-did a f g at round number got e stands left waits told is =
       keeps = call-keeps f at _ g leaves.sees (ap (λ c. c.kinds) leaves.board ∙ moved.kinds)
           (left-plain (came_of f.floor a.place) (kind_at f.floor at) round f.floor.number number got leaves.stays) waits
           leaves.came;
-    })
+    }
+
+pub leave-did : (a : Actor) (f g : Desk) (at round number : ℕ) (got : FloorLeave) (e : End)
+    → Stands a f.floor (Some (wait_at at round number)) [] → HasLeft f.floor a.place got g.floor
+    → g.waits ≡ f.waits → HasTold f.gate g.gate 1 → e ≡ end_of got
+    → GaveUp a f (leave_end a at round number) (ended_so e) g
+leave-did a f g at round number got e stands left waits told is =
+    subst (λ x. GaveUp a f (leave_end a at round number) (ended_so x) g) (sym is)
+    (leaves-line a f g at round number got stands left waits told)
 
 -- and what stands behind its end
 leave-cause : (a : Actor) (f g : Desk) (wait : JobWait) (got : FloorLeave) (came : Bool) → came_of f.floor a.place
@@ -182,18 +207,12 @@ leave-cause a f g wait (Late element) true had leaves later noted line =
 leave-cause a f g wait (Late element) false had leaves later noted line =
     inl (late-told f.floor a.place wait g.floor line.kind noted.long element had leaves)
 
-pub leave-ends : (a : Actor) (f g : Desk) (at round number : ℕ) (got : FloorLeave) (e : End)
+pub leave-told : (a : Actor) (f g : Desk) (at round number : ℕ) (got : FloorLeave)
     → Stands a f.floor (Some (wait_at at round number)) [] → HasLeft f.floor a.place got g.floor
-    → e ≡ end_of got → EndsSo a.place at round number f g e
-leave-ends a f g at round number got e stands left is =
+    → IsNoted f → IsInLine a.place f at round number → IsCauseOf a.place at round number g (end_of got)
+leave-told a f g at round number got stands left noted line =
     let wait : JobWait = wait_at at round number in
     let leaves : Leaves f.floor a.place wait got g.floor = left.at wait stands.ready.waits in
     let later : Later f.floor g.floor
     = leave-later f.floor a.place wait got g.floor leaves stands.ready.job stands.ready.waits in
-    record {
-      answer = got;
-      is = is;
-      cause = λ noted line.
-          subst (IsCauseOf a.place at round number g) (sym is)
-          (leave-cause a f g wait got (came_of f.floor a.place) refl leaves later noted line);
-    }
+    leave-cause a f g wait got (came_of f.floor a.place) refl leaves later noted line

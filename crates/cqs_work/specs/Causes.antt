@@ -55,9 +55,13 @@ IsCauseOf place at round number d end.Late =
 IsCauseOf place at round number d end.Done = ⊥
 IsCauseOf place at round number d end.Crowded = ⊥
 
+-- a wait of the job may last too long
+abbrev pub MayBeOverTime : Job → Type 0
+MayBeOverTime job = IsSome job.deadline ⊎ IsSome job.within
+
 -- a job gave up: it left the line with its last wait
 pub record HasGivenUp (job : Job) (place : ℕ) (d : Desk) : Type 0 where
-  pub deadline : IsSome job.deadline
+  pub time : MayBeOverTime job
   pub wait : Waited
   pub last : last_wait place d.waits ≡ Some wait
   pub left : IsCauseOf place wait.at wait.round wait.number d end.GaveUp
@@ -65,7 +69,7 @@ pub record HasGivenUp (job : Job) (place : ℕ) (d : Desk) : Type 0 where
 -- a job wanted to give up its last wait, but was too late; where what it waited for had come with
 -- its number, that was delivered
 pub record WasLate (job : Job) (place : ℕ) (d : Desk) : Type 0 where
-  pub deadline : IsSome job.deadline
+  pub time : MayBeOverTime job
   pub wait : Waited
   pub last : last_wait place d.waits ≡ Some wait
   pub late : IsCauseOf place wait.at wait.round wait.number d end.Late

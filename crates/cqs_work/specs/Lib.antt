@@ -10,6 +10,7 @@ pub mod Takes
 pub mod Causes
 pub mod Adds
 pub mod Heard
+pub mod Stages
 pub mod Roles
 pub mod Needs
 pub mod Doing

@@ -13,18 +13,25 @@ use Rattle.cqs_floor_shared.specs.Entries.{own_history, is_nothing}
 use Rattle.cqs_floor_shared.specs.Shared.{Shared, IsLegalAt, seen_at}
 use Rattle.cqs_work.specs.Needs.{AreProvided}
 use Rattle.cqs_work.specs.declared.works.Post.{Post}
+use Rattle.cqs_work.specs.Stages.{Stage, stage}
+use Rattle.cqs_turns_report.specs.Machine.{fresh}
 
 -- how far the job at a place is to a worker that hasn't begun: for it the others' jobs have ended
 abbrev pub starting : ℕ → ℕ → ℕ → Progress
 starting workers worker place = if place % workers == worker then Stepping 0 else Ended end.Done
 
--- and each job
-abbrev pub dealt : Plan → ℕ → ℕ → List Progress
-dealt plan workers worker = map (starting workers worker) (range_with_len 0 (length plan.jobs))
+-- with nothing of its patience used up; and each job
+abbrev pub starting_stage : ℕ → ℕ → ℕ → Stage
+starting_stage workers worker place = stage (starting workers worker place) fresh
+
+abbrev pub dealt : Plan → ℕ → ℕ → List Stage
+dealt plan workers worker =
+    map (starting_stage workers worker) (range_with_len 0 (length plan.jobs))
 
 -- the same, as the code keeps it
 pub record IsStarting (workers worker place : ℕ) (state : JobState) : Type 0 where
   pub progress : state.progress ≡ starting workers worker place
+  pub patience : state.patience ≡ fresh
   pub held : state.held.items ≡ []
 
 pub record AreStarting (jobs workers worker : ℕ) (states : List JobState) : Type 0 where
@@ -33,8 +40,8 @@ pub record AreStarting (jobs workers worker : ℕ) (states : List JobState) : Ty
 
 -- The floor of one of so many workers, before any call: its pass has the worker's number, no job
 -- waits or holds anything, and each is in the first round of each barrier. What its pass has seen
--- is legal, and names neither this pass nor one that no floor has. It has room for the steps of the
--- worker's own jobs, and a party for each of their arrivals.
+-- is legal, and names neither this pass nor one that no floor has. It has room for the steps and
+-- the retries of the worker's own jobs, and a party for each of their arrivals.
 pub record IsOpening (plan : Plan) (workers worker : ℕ) (f : Shared) : Type 0 where
   pub kinds : f.board.kinds ≡ kinds_of plan.resources
   pub waits : f.board.waits ≡ (opening_floor plan).waits

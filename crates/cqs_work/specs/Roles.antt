@@ -6,10 +6,11 @@ use Rattle.cqs_turns_report.specs.declared.actors.Actor.{Actor}
 use Rattle.cqs_turns_report.specs.declared.states.End.{End}
 use Rattle.cqs_turns_report.specs.declared.states.Progress.{Progress}
 use Rattle.cqs_turns_report.specs.Machine.{ActedIn, MadeIn, left_at, end_of, after_coming}
-use Rattle.cqs_turns_report.specs.FirstVersion as first
 use Rattle.cqs_turns_report.specs.Machine as machine
 use Rattle.cqs_turns_report.specs.Roles.{role}
 use Rattle.cqs_work.specs.Heard.{Heard, heard_world, come_heard, leave_heard, look_heard}
+use Rattle.cqs_work.specs.Stages.{Stage, stage}
+use Rattle.cqs_turns_report.specs.declared.states.Patience.{Patience}
 
 -- nothing is left to be done
 abbrev pub same : Heard → Heard
@@ -75,5 +76,24 @@ abbrev pub look_at : Actor → ℕ → ℕ → ℕ → ℕ → Heard → ActedIn
 look_at a next at round number h =
     machine.after_looking heard_world (role a) next at round number (look_heard h.answers) h
 
-abbrev pub act : Actor → Progress → Heard → ActedIn Heard
-act a progress h = first.after_acting heard_world (role a) progress h
+-- the job makes the step again at which it waited
+abbrev pub go_back : Actor → ℕ → ℕ → ℕ → ℕ → Heard → ActedIn Heard
+go_back a next at round number h =
+    machine.after_retrying heard_world (role a) next at round number h
+
+-- the whole turn of a job at this stage
+abbrev pub act : Actor → Stage → Heard → ActedIn Heard
+act a s h = machine.after_acting heard_world (role a) s.patience s.progress h
+
+abbrev pub patience_after : Actor → Stage → Heard → Patience
+patience_after a s h = machine.patience_after heard_world (role a) s.patience s.progress h
+
+-- with what its patience rests on then
+abbrev pub patiently : Patience → ActedIn Heard → Heard × Stage
+patiently patience b = (b.scene, stage b.progress patience)
+
+abbrev pub turn : Actor → Stage → Heard → Heard × Stage
+turn a s h = patiently (patience_after a s h) (act a s h)
+
+abbrev pub staged : Stage → Heard → Heard × Stage
+staged s h = (h, s)

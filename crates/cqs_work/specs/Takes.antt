@@ -11,6 +11,8 @@ use Rattle.cqs_turns_report.specs.declared.states.Progress.TheVariants.{Stepping
 use Rattle.cqs_turns_report.specs.Ready.{steps_left}
 use Rattle.cqs_floor_shared.specs.Shared.{Shared, seen_at}
 use Rattle.cqs_work.specs.Accounts.{Weights, sum_in}
+use Rattle.cqs_work.specs.Stages.{Stage, retries_for}
+use Rattle.std.specs.List.{list_any}
 
 -- the entries by which a caller takes a permit at once, or comes to wait for one
 abbrev pub permit_takes : Entry → ℕ
@@ -51,8 +53,31 @@ pub record Tallies (at : ℕ) (steps : List Step) (before : ℕ) (p : Progress) 
   pub least : before + takes_made at steps q ≤ after + takes_made at steps p
   pub most : after + takes_left at steps q ≤ before + takes_left at steps p
 
--- the take steps of those jobs that count; the first one's place is `place`
+-- the same of a whole turn, in which the job may have made a take again: then it used up a retry
+pub record TalliesInTurn (at : ℕ) (job : Job) (before : ℕ) (s : Stage) (after : ℕ) (q : Stage)
+    : Type 0 where
+  pub grows : before ≤ after
+  pub least : before + takes_made at job.steps q.progress
+      ≤ after + takes_made at job.steps s.progress
+  pub most : after + (takes_left at job.steps q.progress + retries_for (is_take at) job q)
+      ≤ before + (takes_left at job.steps s.progress + retries_for (is_take at) job s)
+
+-- how often a job may take of a semaphore: once for each of its take steps there, and where it has
+-- one, once for each of its retries
+abbrev pub takes_with_retries : ℕ → Job → ℕ
+takes_with_retries at job =
+    takes_in at job.steps + (if list_any (is_take at) job.steps then job.retry else 0)
+
+-- the sum over those jobs that count; the first one's place is `place`
+abbrev pub sum_of_takes : (ℕ → Bool) → (Job → ℕ) → ℕ → List Job → ℕ
+sum_of_takes counts each place [] = 0
+sum_of_takes counts each place (job ∷ jobs) =
+    (if counts place then each job else 0) + sum_of_takes counts each (place + 1) jobs
+
+-- the take steps of those jobs that count
 abbrev pub take_steps : (ℕ → Bool) → ℕ → ℕ → List Job → ℕ
-take_steps counts at place [] = 0
-take_steps counts at place (job ∷ jobs) =
-    (if counts place then takes_in at job.steps else 0) + take_steps counts at (place + 1) jobs
+take_steps counts at place jobs = sum_of_takes counts (λ job. takes_in at job.steps) place jobs
+
+-- and the same with their retries
+abbrev pub take_tries : (ℕ → Bool) → ℕ → ℕ → List Job → ℕ
+take_tries counts at place jobs = sum_of_takes counts (takes_with_retries at) place jobs

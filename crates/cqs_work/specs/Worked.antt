@@ -10,10 +10,7 @@ use Rattle.cqs_plan.specs.declared.plans.job.Job.{Job}
 use Rattle.cqs_plan.specs.declared.plans.plan.Plan.{Plan}
 use Rattle.cqs_plan.specs.FloorHistory.{History, of_permits, of_elements, of_latch, of_rounds}
 use Rattle.cqs_plan.specs.Runnable.{kinds_of}
-use Rattle.cqs_turns_report.specs.declared.states.End.TheVariants as end
 use Rattle.cqs_turns_report.specs.declared.states.JobState.{JobState}
-use Rattle.cqs_turns_report.specs.declared.states.Progress.{Progress}
-use Rattle.cqs_turns_report.specs.declared.states.Progress.TheVariants.{Ended}
 use Rattle.cqs_floor_shared.specs.Calls.{HaveAllMet, IsAtRest}
 use Rattle.cqs_floor_shared.specs.Entries.{own_history}
 use Rattle.cqs_floor_shared.specs.Shared.{Shared, IsLegalAt, kind_at, seen_at}
@@ -29,12 +26,13 @@ use Rattle.cqs_work.specs.Ends.{job_end, is_done}
 use Rattle.cqs_work.specs.Gated.{calls_on, untold}
 use Rattle.cqs_work.specs.Noted.{Draw, draws_in, HasPermits}
 use Rattle.cqs_work.specs.Rows.{WasTold, lines_at}
-use Rattle.cqs_work.specs.Takes.{takes, take_steps}
+use Rattle.cqs_work.specs.Takes.{takes, take_steps, take_tries}
 use Rattle.cqs_work.specs.Even.{IsQuiet, IsQuietPool}
 use Rattle.cqs_work.specs.Heard.{Heard, Answer, heard}
 use Rattle.cqs_work.specs.Later.{IsUnnamed}
 use Rattle.cqs_work.specs.Opening.{dealt}
-use Rattle.cqs_work.specs.Works.{turns_of, machine_so, progress_of, close_all}
+use Rattle.cqs_work.specs.Works.{turns_of, machine_so, close_all}
+use Rattle.cqs_work.specs.Stages.{Stage, stages_of, progress_at}
 
 -- one of several workers had memory; its floor, its states and its waits stand at its place
 pub record IsParted {F : Type 0} (i : ℕ) (r : Result (Worker F) Memory) (floors : List F)
@@ -53,16 +51,12 @@ pub record AreParted {F : Type 0} (workers : List (Result (Worker F) Memory)) (f
   pub waits_long : length waits ≡ length workers
   pub each : EachAt (λ i r. IsParted i r floors states waits) workers
 
--- how far the job at a place is
-abbrev pub progress_at : List Progress → ℕ → Progress
-progress_at progress place = slice_index_or progress place (Ended end.Done)
-
 -- each job ended as the worker says that had it
 pub record AreEnds (jobs : ℕ) (states : List (List JobState)) (ends : List JobEnd) : Type 0 where
   pub long : length ends ≡ jobs
   pub at : (place : ℕ) → place < jobs → (own : List JobState)
       → slice_get states (place % length states) ≡ Some own
-      → slice_get ends place ≡ Some (job_end (progress_at (progress_of own) place))
+      → slice_get ends place ≡ Some (job_end (progress_at (stages_of own) place))
 
 -- the pass of the worker that has a job
 abbrev pub pass_of : List Shared → ℕ → ℕ
@@ -94,7 +88,8 @@ is_own_done workers worker ends place =
     is_own workers worker place && is_done (end_at ends place)
 
 -- Of each worker and each semaphore and mutex: the takes that its pass made are at least the take
--- steps of its jobs that are done, and at most those of all its jobs.
+-- steps of its jobs that are done, and at most those of all its jobs with the retries of those that
+-- take there.
 pub record AreBounded (plan : Plan) (floors : List Shared) (final : Shared) (ends : List JobEnd)
     : Type 0 where
   pub at : (worker : ℕ) (f : Shared) (at : ℕ) → slice_get floors worker ≡ Some f
@@ -102,7 +97,7 @@ pub record AreBounded (plan : Plan) (floors : List Shared) (final : Shared) (end
       → (take_steps (is_own_done (length floors) worker ends) at 0 plan.jobs
       ≤ sum_in takes f.number (seen_at final at))
       × (sum_in takes f.number (seen_at final at)
-      ≤ take_steps (is_own (length floors) worker) at 0 plan.jobs)
+      ≤ take_tries (is_own (length floors) worker) at 0 plan.jobs)
 
 -- what a worker's pass would have seen, had it seen all
 abbrev pub seeing_all : Shared → Shared → Heard → Desk
@@ -118,18 +113,18 @@ pub record IsTold (plan : Plan) (workers worker : ℕ) (f final : Shared) (ends 
     (lines : List WaitLine) : Type 0 where
   pub answers : List Answer
   pub after_last : List Answer
-  pub progress : List Progress
+  pub stages : List Stage
   pub mid : Heard
   pub end : Heard
   pub turns : turns_of plan plan.turns (dealt plan workers worker)
-      (heard (desk f [] untold) (answers ++ after_last)) ≡ machine_so progress mid
-  pub closing : close_all plan progress mid ≡ end
+      (heard (desk f [] untold) (answers ++ after_last)) ≡ machine_so stages mid
+  pub closing : close_all plan stages mid ≡ end
   pub all_used : end.answers ≡ []
   pub of_its_kind : end.fits ≡ true
   pub entries : (at : ℕ)
       → slice_index_or end.entries at (of_permits []) ≡ own_history f.number (seen_at final at)
   pub own_ends : (place : ℕ) → place < length plan.jobs → place % workers ≡ worker
-      → slice_get ends place ≡ Some (job_end (progress_at progress place))
+      → slice_get ends place ≡ Some (job_end (progress_at stages place))
   pub waits : (k : ℕ) (line : WaitLine) → slice_get lines k ≡ Some line
       → line.job % workers ≡ worker → WasTold end.waits line.at line.number line.job
   pub causes : (place : ℕ) (job : Job) → slice_get plan.jobs place ≡ Some job

@@ -1,5 +1,5 @@
 -- What a worker's whole work is.
-use Rattle.std.specs.Prelude.{◌≡◌, ℕ, zero, suc, ◌+◌, ◌<◌, Bool, List, [], ◌∷◌, Some, None, Result, IfOk, length, map, slice_get, slice_index_or}
+use Rattle.std.specs.Prelude.{◌≡◌, ℕ, zero, suc, ◌+◌, ◌<◌, Bool, List, [], ◌∷◌, Some, None, Result, IfOk, length, map, slice_get}
 use Rattle.std.specs.Option.{option_map_or}
 use Rattle.cqs_core.specs.declared.Memory.{Memory}
 use Rattle.cqs_plan.specs.declared.plans.job.Job.{Job}
@@ -7,13 +7,10 @@ use Rattle.cqs_plan.specs.declared.plans.plan.Plan.{Plan}
 use Rattle.cqs_plan.specs.Floor.{PlainFloor, wait_of}
 use Rattle.cqs_plan.specs.Runnable.{kinds_of}
 use Rattle.cqs_turns_report.specs.declared.actors.Actor.{Actor}
-use Rattle.cqs_turns_report.specs.declared.states.End.TheVariants as end
 use Rattle.cqs_turns_report.specs.declared.states.JobState.{JobState}
 use Rattle.cqs_turns_report.specs.declared.states.Progress.{Progress}
 use Rattle.cqs_turns_report.specs.declared.states.Progress.TheVariants.{Stepping, Working, Waiting, Ended}
-use Rattle.cqs_turns_report.specs.Machine.{Role}
-use Rattle.cqs_turns_report.specs.FirstVersion.{FirstIn}
-use Rattle.cqs_turns_report.specs.FirstVersion as first
+use Rattle.cqs_turns_report.specs.Machine.{MachineIn, Role}
 use Rattle.cqs_turns_report.specs.Machine as machine
 use Rattle.cqs_turns_report.specs.Ready.{IsReady, wait_in, steps_left}
 use Rattle.cqs_turns_report.specs.Roles.{role}
@@ -28,35 +25,37 @@ use Rattle.cqs_work.specs.Desk.{Desk, desk, fresh_desk}
 use Rattle.cqs_work.specs.Gated.{Gated}
 use Rattle.cqs_work.specs.Heard.{Heard, Hears, heard_world}
 use Rattle.cqs_work.specs.Roles.{same}
-use Rattle.cqs_work.specs.Needs.{AreProvided, IsInRounds}
+use Rattle.cqs_work.specs.Needs.{AreProvided, IsInRounds, CanGoBackIn}
+use Rattle.cqs_work.specs.Stages.{Stage, stages_of, progress_at}
 
--- how far the jobs are
-abbrev pub progress_of : List JobState → List Progress
-progress_of states = map (λ state. state.progress) states
-
-abbrev pub machine_so : List Progress → Heard → FirstIn Heard
-machine_so progress h = record { scene = h; progress = progress }
+abbrev pub machine_so : List Stage → Heard → MachineIn Heard
+machine_so stages h =
+    record {
+      scene = h;
+      progress = map (λ s. s.progress) stages;
+      patience = map (λ s. s.patience) stages;
+    }
 
 -- the job at a place has its turn
-abbrev pub job_turn : Plan → ℕ → ℕ → FirstIn Heard → FirstIn Heard
+abbrev pub job_turn : Plan → ℕ → ℕ → MachineIn Heard → MachineIn Heard
 job_turn plan turn place m =
-    option_map_or (λ job. first.one_job heard_world plan.resources turn place job m)
+    option_map_or (λ job. machine.one_job heard_world plan.resources turn place job m)
     (slice_get plan.jobs place) m
 
-abbrev pub job_turn_so : Plan → ℕ → ℕ → List Progress → Heard → FirstIn Heard
-job_turn_so plan turn place progress h = job_turn plan turn place (machine_so progress h)
+abbrev pub job_turn_so : Plan → ℕ → ℕ → List Stage → Heard → MachineIn Heard
+job_turn_so plan turn place stages h = job_turn plan turn place (machine_so stages h)
 
 -- a turn
-abbrev pub turn_of : Plan → ℕ → FirstIn Heard → FirstIn Heard
-turn_of plan turn m = first.each_job heard_world plan.resources turn 0 plan.jobs m
+abbrev pub turn_of : Plan → ℕ → MachineIn Heard → MachineIn Heard
+turn_of plan turn m = machine.each_job heard_world plan.resources turn 0 plan.jobs m
 
-abbrev pub turn_so : Plan → ℕ → List Progress → Heard → FirstIn Heard
-turn_so plan turn progress h = turn_of plan turn (machine_so progress h)
+abbrev pub turn_so : Plan → ℕ → List Stage → Heard → MachineIn Heard
+turn_so plan turn stages h = turn_of plan turn (machine_so stages h)
 
 -- the first so many turns
-abbrev pub turns_of : Plan → ℕ → List Progress → Heard → FirstIn Heard
-turns_of plan zero progress h = machine_so progress h
-turns_of plan (suc turn) progress h = turn_of plan turn (turns_of plan turn progress h)
+abbrev pub turns_of : Plan → ℕ → List Stage → Heard → MachineIn Heard
+turns_of plan zero stages h = machine_so stages h
+turns_of plan (suc turn) stages h = turn_of plan turn (turns_of plan turn stages h)
 
 -- after the last turn a job leaves the line, where it waits, and gives back all that it holds
 abbrev pub line_left : Role → Progress → Heard → Heard
@@ -76,16 +75,16 @@ abbrev pub close : Actor → Progress → Heard → Heard
 close a progress h = after_last_gives (role a) progress h
 
 -- each job in order; the first one's place is `place`
-abbrev pub close_from : Plan → ℕ → List Job → List Progress → Heard → Heard
-close_from plan place [] progress h = h
-close_from plan place (job ∷ jobs) progress h =
-    close_from plan (place + 1) jobs progress
+abbrev pub close_from : Plan → ℕ → List Job → List Stage → Heard → Heard
+close_from plan place [] stages h = h
+close_from plan place (job ∷ jobs) stages h =
+    close_from plan (place + 1) jobs stages
     (after_last_gives
     (record { resources = plan.resources; turn = plan.turns; place = place; job = job })
-    (slice_index_or progress place (Ended end.Done)) h)
+    (progress_at stages place) h)
 
-abbrev pub close_all : Plan → List Progress → Heard → Heard
-close_all plan progress h = close_from plan 0 plan.jobs progress h
+abbrev pub close_all : Plan → List Stage → Heard → Heard
+close_all plan stages h = close_from plan 0 plan.jobs stages h
 
 -- each state has the places of what the jobs hold
 pub record AreKept (b : PlainFloor) (states : List JobState) : Type 0 where
@@ -103,7 +102,9 @@ pub record RunsOn (plan : Plan) (f : Shared) (states : List JobState) : Type 0 w
       → IsReady f.board place (wait_in state.progress) (steps_left job.steps state.progress)
   pub rounds : (place : ℕ) (job : Job) (state : JobState) → slice_get plan.jobs place ≡ Some job
       → slice_get states place ≡ Some state → IsInRounds f.board place job.steps state.progress
-  pub provided : AreProvided f plan.jobs (progress_of states)
+  pub back : (place : ℕ) (job : Job) (state : JobState) → slice_get plan.jobs place ≡ Some job
+      → slice_get states place ≡ Some state → CanGoBackIn f place job.steps state.progress
+  pub provided : AreProvided f plan.jobs (stages_of states)
   pub kept : AreKept f.board states
 
 -- the job has nothing left there
@@ -123,10 +124,10 @@ pub record HasWorked (plan : Plan) (f : Desk) (states ends : List JobState) (g :
     : Type 0 where
   pub last : Desk
   pub long : length ends ≡ length plan.jobs
-  pub turns : Hears f last (turns_of plan plan.turns (progress_of states))
-      (machine_so (progress_of ends))
-  pub went : Went plan f (progress_of states) last (progress_of ends)
-  pub closing : Hears last g (close_all plan (progress_of ends)) same
+  pub turns : Hears f last (turns_of plan plan.turns (stages_of states))
+      (machine_so (stages_of ends))
+  pub went : Went plan f (stages_of states) last (stages_of ends)
+  pub closing : Hears last g (close_all plan (stages_of ends)) same
   pub keeps : Keeps last g
   pub clear : AllClear plan g.floor
 

@@ -1,17 +1,17 @@
 //! What a worker's job does in its turn.
 
-ghost use Rattle.std.specs.Prelude.{◌≡◌, ◌<◌, ◌∷◌, [], None, Some, slice_get, length, ◌==◌, IfSome, OnOk, IfOk};
+ghost use Rattle.std.specs.Prelude.{◌≡◌, ◌<◌, ◌≤◌, ◌-◌, ◌∷◌, [], true, false, None, Some, slice_get, length, ◌==◌, IfSome, OnOk, IfOk};
 ghost use Rattle.std.specs.List.{position_from};
 ghost use Rattle.cqs_core.specs.Keyed.{without};
 ghost use Rattle.cqs_turns_report.specs.Turns.{places_held};
-ghost use Rattle.cqs_turns_report.specs.Machine.{end_of};
+ghost use Rattle.cqs_turns_report.specs.Machine.{end_of, is_over_time, moved, retried, retries};
 ghost use Rattle.cqs_turns_report.specs.Ready.{with_place};
-ghost use Rattle.cqs_turns_report.specs.Roles.{wait_at, left_with, is_holdable_at};
+ghost use Rattle.cqs_turns_report.specs.Roles.{role, wait_at, left_with, is_holdable_at};
 ghost use Rattle.cqs_work.specs.Works.{IsClear};
 ghost use Rattle.cqs_work.specs.Hands.{at_hand};
-ghost use Rattle.cqs_work.specs.Adds.{EndsSo};
-ghost use Rattle.cqs_work.specs.Doing.{Stands, CanAct, Did, GaveUp, after_stop};
-ghost use Rattle.cqs_work.specs.Roles.{give_one, give_each, count_down, same, left_so, made_so, finish, take_step, wait_step, arrive_step, make_step, go_on, leave_end, ended_so, give_up, look_at, act};
+ghost use Rattle.cqs_work.specs.Doing.{Stands, CanAct, HasTurn, Did, HadTurn, GaveUp, after_stop};
+ghost use Rattle.cqs_work.specs.Roles.{give_one, give_each, count_down, same, left_so, made_so, finish, take_step, wait_step, arrive_step, make_step, go_on, leave_end, ended_so};
+ghost use Rattle.cqs_work.specs.Stages.{stage_of};
 
 use crate::clerk::Clerk;
 use crate::gate::Gate;
@@ -19,7 +19,7 @@ use crate::waits::note;
 use cqs_core::Memory;
 use cqs_floor_shared::SharedFloor;
 use cqs_plan::{FloorLeave, FloorLook, FloorTake, Step};
-use cqs_turns_report::{Actor, End, JobState, Progress};
+use cqs_turns_report::{Actor, End, JobState, Patience, Progress};
 use std::sync::Wait;
 use std::thread::Threads;
 
@@ -307,7 +307,7 @@ fn hold_late(
     }
 }
 
-/// The job leaves with its wait. Says how the job ends.
+/// The job leaves with its wait.
 pub fn leave<R: Threads + Wait, G: Gate, F: SharedFloor>(
     clerk: &mut Clerk<'_, R, G, F>,
     actor: &Actor<'_>,
@@ -322,9 +322,6 @@ pub fn leave<R: Threads + Wait, G: Gate, F: SharedFloor>(
     ensures did { IfOk result (λ end. GaveUp actor.now (at_hand F.shared G.begun G.ended clerk.old)
         (leave_end actor.now at round number) (ended_so end)
         (at_hand F.shared G.begun G.ended clerk.new)) }
-    ensures ends { IfOk result (λ end. EndsSo actor.now.place at round number
-        (at_hand F.shared G.begun G.ended clerk.old)
-        (at_hand F.shared G.begun G.ended clerk.new) end) }
     ensures held { OnOk result (held.new.items
         ≡ places_held (F.shared clerk.new.floor).board actor.now.place) }
 {
@@ -332,62 +329,151 @@ pub fn leave<R: Threads + Wait, G: Gate, F: SharedFloor>(
     hold_late(held, actor, at, answer)
 }
 
-/// The job's deadline has come: it gives its wait up, gives back all that it holds, and has ended.
+/// The job gives back all that it holds, with what came too late as its newest. Says how it ends.
 fn give_up<R: Threads + Wait, G: Gate, F: SharedFloor>(
     clerk: &mut Clerk<'_, R, G, F>,
     actor: &Actor<'_>,
     held: &mut Vec<u32>,
     at: u32,
-    round: u32,
-    number: u64,
+    answer: FloorLeave,
 ) -> Result<End, Memory>
-    requires held { held.old.items ≡ places_held (F.shared clerk.old.floor).board actor.now.place }
-    requires stands { Stands actor.now (F.shared clerk.old.floor)
-        (Some (wait_at at round number)) [] }
-    ensures did { IfOk result (λ end. GaveUp actor.now (at_hand F.shared G.begun G.ended clerk.old)
-        (give_up actor.now at round number) (left_so (Progress.Ended end))
-        (at_hand F.shared G.begun G.ended clerk.new)) }
-    ensures ends { IfOk result (λ end. EndsSo actor.now.place at round number
+    requires held { places_held (F.shared clerk.old.floor).board actor.now.place
+        ≡ left_with actor.now.resources.now held.old.items at answer }
+    requires stands { Stands actor.now (F.shared clerk.old.floor) None [] }
+    ensures end { IfOk result (λ end. end ≡ end_of answer) }
+    ensures did { OnOk result (GaveUp actor.now
         (at_hand F.shared G.begun G.ended clerk.old)
-        (at_hand F.shared G.begun G.ended clerk.new) end) }
+        (give_each actor.now (places_held (F.shared clerk.old.floor).board actor.now.place))
+        same (at_hand F.shared G.begun G.ended clerk.new)) }
     ensures held { OnOk result (held.new.items
         ≡ places_held (F.shared clerk.new.floor).board actor.now.place) }
 {
-    let end = leave(clerk, actor, held, at, round, number)?;
+    let end = hold_late(held, actor, at, answer)?;
     give_all(clerk, actor, held);
     Ok(end)
 }
 
-/// The job looks at its wait.
-fn look<R: Threads + Wait, G: Gate, F: SharedFloor>(
+/// Whether the job, which is over time, makes the step again, by the answer to the leave of its
+/// wait.
+fn retries(actor: &Actor<'_>, patience: Patience, answer: FloorLeave) -> bool
+    ensures { result ≡ retries (role actor.now) patience answer }
+{
+    match answer {
+        FloorLeave::Gone => actor.may_retry(patience),
+        FloorLeave::Late(_) => false,
+    }
+}
+
+/// The wait of the job is gone. It uses up a retry, and makes the step again at which it waited.
+fn retry<R: Threads + Wait, G: Gate, F: SharedFloor>(
     clerk: &mut Clerk<'_, R, G, F>,
     actor: &Actor<'_>,
-    held: &mut Vec<u32>,
+    state: &mut JobState,
+    next: u32,
+) -> Result<(), Memory>
+    requires some { 0 < next }
+    requires left { state.old.patience.used < actor.now.job.now.retry }
+    requires few { actor.now.job.now.retry ≤ 64 }
+    requires held { state.old.held.items
+        ≡ places_held (F.shared clerk.old.floor).board actor.now.place }
+    requires can { CanAct actor.now (F.shared clerk.old.floor) (Progress.Stepping (next - 1)) }
+    ensures did { OnOk result (Did actor.now
+        (at_hand F.shared G.begun G.ended clerk.old) (Progress.Stepping (next - 1))
+        (go_on actor.now (next - 1)) (left_so state.new.progress)
+        (at_hand F.shared G.begun G.ended clerk.new) state.new.progress) }
+    ensures patience { OnOk result (state.new.patience
+        ≡ retried (role actor.now) state.old.patience) }
+    ensures held { OnOk result (state.new.held.items
+        ≡ places_held (F.shared clerk.new.floor).board actor.now.place) }
+{
+    state.progress = make_steps(clerk, actor, &mut state.held, next - 1)?;
+    state.patience = Patience {
+        since: actor.turn,
+        used: state.patience.used + 1,
+    };
+    Ok(())
+}
+
+/// The job is over time: it gives its wait up, and then makes the step again, or has ended.
+fn wait_too_long<R: Threads + Wait, G: Gate, F: SharedFloor>(
+    clerk: &mut Clerk<'_, R, G, F>,
+    actor: &Actor<'_>,
+    state: &mut JobState,
     next: u32,
     at: u32,
     round: u32,
     number: u64,
-) -> Result<Progress, Memory>
-    requires held { held.old.items ≡ places_held (F.shared clerk.old.floor).board actor.now.place }
-    requires can { CanAct actor.now (F.shared clerk.old.floor)
-        (Progress.Waiting next at round number) }
-    ensures did { IfOk result (λ progress. Did actor.now
-        (at_hand F.shared G.begun G.ended clerk.old)
-        (Progress.Waiting next at round number) (look_at actor.now next at round number)
-        (left_so progress) (at_hand F.shared G.begun G.ended clerk.new) progress) }
-    ensures held { OnOk result (held.new.items
+) -> Result<(), Memory>
+    requires waits { state.old.progress ≡ Progress.Waiting next at round number }
+    requires long { is_over_time (role actor.now) state.old.patience ≡ true }
+    requires held { state.old.held.items
+        ≡ places_held (F.shared clerk.old.floor).board actor.now.place }
+    requires turn { HasTurn actor.now (F.shared clerk.old.floor) (stage_of state.old) }
+    ensures did { OnOk result (HadTurn actor.now
+        (at_hand F.shared G.begun G.ended clerk.old) (stage_of state.old)
+        (at_hand F.shared G.begun G.ended clerk.new) (stage_of state.new)) }
+    ensures held { OnOk result (state.new.held.items
+        ≡ places_held (F.shared clerk.new.floor).board actor.now.place) }
+{
+    let answer = clerk.leave(actor.place);
+    if retries(actor, state.patience, answer) {
+        return retry(clerk, actor, state, next);
+    }
+    let end = give_up(clerk, actor, &mut state.held, at, answer)?;
+    state.progress = Progress::Ended(end);
+    Ok(())
+}
+
+/// The job makes its steps from this one on.
+fn move_on<R: Threads + Wait, G: Gate, F: SharedFloor>(
+    clerk: &mut Clerk<'_, R, G, F>,
+    actor: &Actor<'_>,
+    state: &mut JobState,
+    next: u32,
+) -> Result<(), Memory>
+    requires held { state.old.held.items
+        ≡ places_held (F.shared clerk.old.floor).board actor.now.place }
+    requires can { CanAct actor.now (F.shared clerk.old.floor) (Progress.Stepping next) }
+    ensures did { OnOk result (Did actor.now
+        (at_hand F.shared G.begun G.ended clerk.old) (Progress.Stepping next)
+        (go_on actor.now next) (left_so state.new.progress)
+        (at_hand F.shared G.begun G.ended clerk.new) state.new.progress) }
+    ensures patience { OnOk result (state.new.patience
+        ≡ moved (role actor.now) state.old.patience) }
+    ensures held { OnOk result (state.new.held.items
+        ≡ places_held (F.shared clerk.new.floor).board actor.now.place) }
+{
+    state.progress = make_steps(clerk, actor, &mut state.held, next)?;
+    state.patience.since = actor.turn;
+    Ok(())
+}
+
+/// The job looks at its wait, and goes on where it was served.
+fn look<R: Threads + Wait, G: Gate, F: SharedFloor>(
+    clerk: &mut Clerk<'_, R, G, F>,
+    actor: &Actor<'_>,
+    state: &mut JobState,
+    next: u32,
+    at: u32,
+    round: u32,
+    number: u64,
+) -> Result<(), Memory>
+    requires waits { state.old.progress ≡ Progress.Waiting next at round number }
+    requires calm { is_over_time (role actor.now) state.old.patience ≡ false }
+    requires held { state.old.held.items
+        ≡ places_held (F.shared clerk.old.floor).board actor.now.place }
+    requires turn { HasTurn actor.now (F.shared clerk.old.floor) (stage_of state.old) }
+    ensures did { OnOk result (HadTurn actor.now
+        (at_hand F.shared G.begun G.ended clerk.old) (stage_of state.old)
+        (at_hand F.shared G.begun G.ended clerk.new) (stage_of state.new)) }
+    ensures held { OnOk result (state.new.held.items
         ≡ places_held (F.shared clerk.new.floor).board actor.now.place) }
 {
     match clerk.look(actor.place) {
-        FloorLook::Pending => Ok(Progress::Waiting {
-            next,
-            at,
-            round,
-            number,
-        }),
+        FloorLook::Pending => Ok(()),
         FloorLook::Granted(_) => {
-            hold(held, actor, at)?;
-            make_steps(clerk, actor, held, next)
+            hold(&mut state.held, actor, at)?;
+            move_on(clerk, actor, state, next)
         }
     }
 }
@@ -396,80 +482,50 @@ fn look<R: Threads + Wait, G: Gate, F: SharedFloor>(
 fn work<R: Threads + Wait, G: Gate, F: SharedFloor>(
     clerk: &mut Clerk<'_, R, G, F>,
     actor: &Actor<'_>,
-    held: &mut Vec<u32>,
+    state: &mut JobState,
     next: u32,
     until: u32,
-) -> Result<Progress, Memory>
-    requires held { held.old.items ≡ places_held (F.shared clerk.old.floor).board actor.now.place }
-    requires can { CanAct actor.now (F.shared clerk.old.floor) (Progress.Working next until) }
-    ensures did { IfOk result (λ progress. Did actor.now
-        (at_hand F.shared G.begun G.ended clerk.old)
-        (Progress.Working next until) (act actor.now (Progress.Working next until))
-        (left_so progress) (at_hand F.shared G.begun G.ended clerk.new) progress) }
-    ensures held { OnOk result (held.new.items
+) -> Result<(), Memory>
+    requires works { state.old.progress ≡ Progress.Working next until }
+    requires held { state.old.held.items
+        ≡ places_held (F.shared clerk.old.floor).board actor.now.place }
+    requires turn { HasTurn actor.now (F.shared clerk.old.floor) (stage_of state.old) }
+    ensures did { OnOk result (HadTurn actor.now
+        (at_hand F.shared G.begun G.ended clerk.old) (stage_of state.old)
+        (at_hand F.shared G.begun G.ended clerk.new) (stage_of state.new)) }
+    ensures held { OnOk result (state.new.held.items
         ≡ places_held (F.shared clerk.new.floor).board actor.now.place) }
 {
     if actor.turn < until {
-        return Ok(Progress::Working { next, until });
+        return Ok(());
     }
-    make_steps(clerk, actor, held, next)
+    move_on(clerk, actor, state, next)
 }
 
-/// The job looks at its wait, or gives it up once its deadline has come.
+/// The job looks at its wait, or gives it up where it is over time.
 fn wait_on<R: Threads + Wait, G: Gate, F: SharedFloor>(
     clerk: &mut Clerk<'_, R, G, F>,
     actor: &Actor<'_>,
-    held: &mut Vec<u32>,
+    state: &mut JobState,
     next: u32,
     at: u32,
     round: u32,
     number: u64,
-) -> Result<Progress, Memory>
-    requires held { held.old.items ≡ places_held (F.shared clerk.old.floor).board actor.now.place }
-    requires can { CanAct actor.now (F.shared clerk.old.floor)
-        (Progress.Waiting next at round number) }
-    ensures did { IfOk result (λ progress. Did actor.now
-        (at_hand F.shared G.begun G.ended clerk.old)
-        (Progress.Waiting next at round number)
-        (act actor.now (Progress.Waiting next at round number))
-        (left_so progress) (at_hand F.shared G.begun G.ended clerk.new) progress) }
-    ensures held { OnOk result (held.new.items
+) -> Result<(), Memory>
+    requires waits { state.old.progress ≡ Progress.Waiting next at round number }
+    requires held { state.old.held.items
+        ≡ places_held (F.shared clerk.old.floor).board actor.now.place }
+    requires turn { HasTurn actor.now (F.shared clerk.old.floor) (stage_of state.old) }
+    ensures did { OnOk result (HadTurn actor.now
+        (at_hand F.shared G.begun G.ended clerk.old) (stage_of state.old)
+        (at_hand F.shared G.begun G.ended clerk.new) (stage_of state.new)) }
+    ensures held { OnOk result (state.new.held.items
         ≡ places_held (F.shared clerk.new.floor).board actor.now.place) }
 {
-    if actor.is_due() {
-        let end = give_up(clerk, actor, held, at, round, number)?;
-        return Ok(Progress::Ended(end));
+    if actor.is_over_time(state.patience) {
+        return wait_too_long(clerk, actor, state, next, at, round, number);
     }
-    look(clerk, actor, held, next, at, round, number)
-}
-
-/// The job that is so far has its turn. Says how far it is then.
-fn go_from<R: Threads + Wait, G: Gate, F: SharedFloor>(
-    clerk: &mut Clerk<'_, R, G, F>,
-    actor: &Actor<'_>,
-    held: &mut Vec<u32>,
-    progress: Progress,
-) -> Result<Progress, Memory>
-    requires held { held.old.items ≡ places_held (F.shared clerk.old.floor).board actor.now.place }
-    requires can { CanAct actor.now (F.shared clerk.old.floor) progress }
-    ensures did { IfOk result (λ later. Did actor.now
-        (at_hand F.shared G.begun G.ended clerk.old) progress
-        (act actor.now progress) (left_so later)
-        (at_hand F.shared G.begun G.ended clerk.new) later) }
-    ensures held { OnOk result (held.new.items
-        ≡ places_held (F.shared clerk.new.floor).board actor.now.place) }
-{
-    match progress {
-        Progress::Stepping(next) => make_steps(clerk, actor, held, next),
-        Progress::Working { next, until } => work(clerk, actor, held, next, until),
-        Progress::Waiting {
-            next,
-            at,
-            round,
-            number,
-        } => wait_on(clerk, actor, held, next, at, round, number),
-        Progress::Ended(_) => Ok(progress),
-    }
+    look(clerk, actor, state, next, at, round, number)
 }
 
 /// The job has its turn.
@@ -480,14 +536,22 @@ pub fn act<R: Threads + Wait, G: Gate, F: SharedFloor>(
 ) -> Result<(), Memory>
     requires held { state.old.held.items
         ≡ places_held (F.shared clerk.old.floor).board actor.now.place }
-    requires can { CanAct actor.now (F.shared clerk.old.floor) state.old.progress }
-    ensures did { OnOk result (Did actor.now
-        (at_hand F.shared G.begun G.ended clerk.old) state.old.progress
-        (act actor.now state.old.progress) (left_so state.new.progress)
-        (at_hand F.shared G.begun G.ended clerk.new) state.new.progress) }
+    requires turn { HasTurn actor.now (F.shared clerk.old.floor) (stage_of state.old) }
+    ensures did { OnOk result (HadTurn actor.now
+        (at_hand F.shared G.begun G.ended clerk.old) (stage_of state.old)
+        (at_hand F.shared G.begun G.ended clerk.new) (stage_of state.new)) }
     ensures held { OnOk result (state.new.held.items
         ≡ places_held (F.shared clerk.new.floor).board actor.now.place) }
 {
-    state.progress = go_from(clerk, actor, &mut state.held, state.progress)?;
-    Ok(())
+    match state.progress {
+        Progress::Stepping(next) => move_on(clerk, actor, state, next),
+        Progress::Working { next, until } => work(clerk, actor, state, next, until),
+        Progress::Waiting {
+            next,
+            at,
+            round,
+            number,
+        } => wait_on(clerk, actor, state, next, at, round, number),
+        Progress::Ended(_) => Ok(()),
+    }
 }

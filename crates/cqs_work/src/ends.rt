@@ -10,9 +10,9 @@ use std::marker::Model;
 pub enum JobEnd {
     /// It made all its steps.
     Done,
-    /// Its wait wasn't served by its deadline.
+    /// A wait of it wasn't served in time, and it had no retry left, or its deadline had come.
     GaveUp,
-    /// It wanted to leave its wait at its deadline, and was too late: it had been served, or at a
+    /// It wanted to leave a wait that was over time, and was too late: it had been served, or at a
     /// barrier all had arrived.
     Late,
     /// A call of it was turned away.

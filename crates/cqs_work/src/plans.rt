@@ -154,7 +154,7 @@ pub fn work_plan<R: Threads + Wait + Sync, F: SharedFloor + Send + Drop, G: Gate
         (F.shared worked.floor) worked.waits) }
 
     // A worker's takes of a semaphore are at least those of its jobs that are done, and at most all
-    // of its jobs' take steps.
+    // of its jobs' take steps, with the retries of those that take there.
     ensures bounds { IfOk result (λ worked. AreBounded plan.now (shared_of F.shared floors.items)
         (F.shared worked.floor) worked.ends) }
 

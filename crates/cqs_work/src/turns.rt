@@ -11,7 +11,8 @@ ghost use Rattle.cqs_work.specs.Hands.{at_hand};
 ghost use Rattle.cqs_work.specs.Adds.{Keeps};
 ghost use Rattle.cqs_work.specs.Courses.{Went};
 ghost use Rattle.cqs_work.specs.Doing.{Stands, GaveUp};
-ghost use Rattle.cqs_work.specs.Works.{progress_of, machine_so, job_turn_so, turn_so, turns_of, close, close_all, line_left_so, IsClear, AllClear, RunsOn};
+ghost use Rattle.cqs_work.specs.Stages.{stage_of, stages_of};
+ghost use Rattle.cqs_work.specs.Works.{machine_so, job_turn_so, turn_so, turns_of, close, close_all, line_left_so, IsClear, AllClear, RunsOn};
 
 use crate::acts::{act, give_all, leave};
 use crate::clerk::Clerk;
@@ -53,12 +54,12 @@ fn one_job<R: Threads + Wait, G: Gate, F: SharedFloor>(
     requires place { place < length plan.now.jobs }
     ensures heard { OnOk result (Hears (at_hand F.shared G.begun G.ended clerk.old)
         (at_hand F.shared G.begun G.ended clerk.new)
-        (job_turn_so plan.now turn place (progress_of states.old))
-        (machine_so (progress_of states.new))) }
+        (job_turn_so plan.now turn place (stages_of states.old))
+        (machine_so (stages_of states.new))) }
     ensures runs { OnOk result (RunsOn plan.now (F.shared clerk.new.floor) states.new) }
     ensures went { OnOk result (Went plan.now (at_hand F.shared G.begun G.ended clerk.old)
-        (progress_of states.old)
-        (at_hand F.shared G.begun G.ended clerk.new) (progress_of states.new)) }
+        (stages_of states.old)
+        (at_hand F.shared G.begun G.ended clerk.new) (stages_of states.new)) }
 {
     let actor = actor_at(plan, turn, place);
     act(clerk, &actor, &mut states[place as usize])
@@ -76,11 +77,11 @@ fn one_turn<R: Threads + Wait, G: Gate, F: SharedFloor>(
     requires turn { turn ≤ 40000 }
     ensures heard { OnOk result (Hears (at_hand F.shared G.begun G.ended clerk.old)
         (at_hand F.shared G.begun G.ended clerk.new)
-        (turn_so plan.now turn (progress_of states.old)) (machine_so (progress_of states.new))) }
+        (turn_so plan.now turn (stages_of states.old)) (machine_so (stages_of states.new))) }
     ensures runs { OnOk result (RunsOn plan.now (F.shared clerk.new.floor) states.new) }
     ensures went { OnOk result (Went plan.now (at_hand F.shared G.begun G.ended clerk.old)
-        (progress_of states.old)
-        (at_hand F.shared G.begun G.ended clerk.new) (progress_of states.new)) }
+        (stages_of states.old)
+        (at_hand F.shared G.begun G.ended clerk.new) (stages_of states.new)) }
 {
     for place in 0..plan.jobs.as_slice().len() {
         one_job(clerk, plan, turn, place as u32, states)?;
@@ -98,12 +99,12 @@ pub fn all_turns<R: Threads + Wait, G: Gate, F: SharedFloor>(
     requires runs { RunsOn plan.now (F.shared clerk.old.floor) states.old }
     ensures heard { OnOk result (Hears (at_hand F.shared G.begun G.ended clerk.old)
         (at_hand F.shared G.begun G.ended clerk.new)
-        (turns_of plan.now plan.now.turns (progress_of states.old))
-        (machine_so (progress_of states.new))) }
+        (turns_of plan.now plan.now.turns (stages_of states.old))
+        (machine_so (stages_of states.new))) }
     ensures runs { OnOk result (RunsOn plan.now (F.shared clerk.new.floor) states.new) }
     ensures went { OnOk result (Went plan.now (at_hand F.shared G.begun G.ended clerk.old)
-        (progress_of states.old)
-        (at_hand F.shared G.begun G.ended clerk.new) (progress_of states.new)) }
+        (stages_of states.old)
+        (at_hand F.shared G.begun G.ended clerk.new) (stages_of states.new)) }
 {
     for turn in 0..plan.turns {
         one_turn(clerk, plan, turn, states)?;
@@ -126,7 +127,7 @@ fn leave_line<R: Threads + Wait, G: Gate, F: SharedFloor>(
         (at_hand F.shared G.begun G.ended clerk.new)) }
     ensures held { OnOk result (state.new.held.items
         ≡ places_held (F.shared clerk.new.floor).board actor.now.place) }
-    ensures progress { state.new.progress ≡ state.old.progress }
+    ensures stage { stage_of state.new ≡ stage_of state.old }
 {
     match state.progress {
         Progress::Waiting {
@@ -157,7 +158,7 @@ fn close_job<R: Threads + Wait, G: Gate, F: SharedFloor>(
     ensures held { OnOk result (state.new.held.items
         ≡ places_held (F.shared clerk.new.floor).board actor.now.place) }
     ensures clear { OnOk result (IsClear (F.shared clerk.new.floor).board actor.now.place) }
-    ensures progress { state.new.progress ≡ state.old.progress }
+    ensures stage { stage_of state.new ≡ stage_of state.old }
 {
     leave_line(clerk, actor, state)?;
     give_all(clerk, actor, &mut state.held);
@@ -174,11 +175,11 @@ pub fn close_jobs<R: Threads + Wait, G: Gate, F: SharedFloor>(
     requires runs { RunsOn plan.now (F.shared clerk.old.floor) states.old }
     ensures heard { OnOk result (Hears (at_hand F.shared G.begun G.ended clerk.old)
         (at_hand F.shared G.begun G.ended clerk.new)
-        (close_all plan.now (progress_of states.old)) same) }
+        (close_all plan.now (stages_of states.old)) same) }
     ensures keeps { OnOk result (Keeps (at_hand F.shared G.begun G.ended clerk.old)
         (at_hand F.shared G.begun G.ended clerk.new)) }
     ensures clear { OnOk result (AllClear plan.now (F.shared clerk.new.floor)) }
-    ensures progress { OnOk result (progress_of states.new ≡ progress_of states.old) }
+    ensures stages { OnOk result (stages_of states.new ≡ stages_of states.old) }
 {
     for place in 0..plan.jobs.as_slice().len() {
         let actor = actor_at(plan, plan.turns, place as u32);

@@ -35,8 +35,8 @@ use std::alloc::{AllocError, Global};
 
 /// A floor for each of so many workers, on resources of the running queue that all of them share.
 /// The first has the first pass of each, and each other one a pass that was split from the one
-/// before. A floor has room for all steps of the plan, and holds a party for each of its worker's
-/// jobs that arrives at a barrier.
+/// before. A floor has room for all steps and retries of the plan, and holds a party for each of
+/// its worker's jobs that arrives at a barrier.
 pub fn shared_floors(
     alloc: Global,
     plan: &Plan,

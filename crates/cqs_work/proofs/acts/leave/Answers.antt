@@ -1,6 +1,6 @@
 use Rattle.cqs_turns_report.specs.Roles.{wait_at}
 use Rattle.cqs_turns_report.proofs.Readied.{leave-held}
-use Rattle.cqs_work.proofs.WaitCalls.{leave-did, leave-ends}
+use Rattle.cqs_work.proofs.WaitCalls.{leave-did}
 use Rattle.cqs_work.proofs.Acting.{if-ok, on-ok}
 use Rattle.cqs_work.proofs.acts.leave.Goals as goal
 
@@ -9,13 +9,6 @@ returns-clause-did g c =
     if-ok c.hold_late.result
     (λ end is. leave-did c.args.actor.now _ _ c.args.at c.args.round c.args.number c.leave-answer.result end
     c.requires.stands c.leave-answer.ensures.leaves c.leave-answer.ensures.waits c.leave-answer.ensures.told is)
-    c.hold_late.ensures.end
-
-pub returns-clause-ends : goal.returns-clause-ends
-returns-clause-ends g c =
-    if-ok c.hold_late.result
-    (λ end is. leave-ends c.args.actor.now _ _ c.args.at c.args.round c.args.number c.leave-answer.result end
-    c.requires.stands c.leave-answer.ensures.leaves is)
     c.hold_late.ensures.end
 
 pub returns-clause-held : goal.returns-clause-held

@@ -1,3 +1,4 @@
+use Rattle.std.proofs.Common.{refl}
 use Rattle.cqs_work.proofs.Posting.{starting-none, starting-push}
 use Rattle.cqs_work.proofs.posts.starting_states.Goals as goal
 
@@ -8,4 +9,4 @@ pub loop-place-preserved : goal.loop-place-preserved
 loop-place-preserved c =
     rw c.in_ok-push.ensures.items
     (starting-push c.loop-place.place c.args.workers c.args.worker c.loop-place.states.items _ c.loop-place.invariant
-    (record { progress = c.starting.ensures; held = c.new.ensures.items }))
+    (record { progress = c.starting.ensures; patience = refl; held = c.new.ensures.items }))

@@ -1,4 +1,5 @@
-use Rattle.cqs_work.specs.Works.{progress_of, turns_of}
+use Rattle.cqs_work.specs.Stages.{stages_of}
+use Rattle.cqs_work.specs.Works.{turns_of}
 use Rattle.cqs_work.proofs.Coursing.{went-none, went-then}
 use Rattle.cqs_work.proofs.HeardLemmas.{hears-none}
 use Rattle.cqs_work.proofs.Turning.{next-turn}
@@ -6,9 +7,9 @@ use Rattle.cqs_work.proofs.turns.all_turns.Goals as goal
 
 pub loop-turn-init : goal.loop-turn-init
 loop-turn-init g c = record {
-  heard = hears-none _ (turns_of c.args.plan.now 0 (progress_of c.args.states.now));
+  heard = hears-none _ (turns_of c.args.plan.now 0 (stages_of c.args.states.now));
   runs = c.requires.runs;
-  went = went-none c.args.plan.now _ (progress_of c.args.states.now);
+  went = went-none c.args.plan.now _ (stages_of c.args.states.now);
 }
 
 pub loop-turn-preserved : goal.loop-turn-preserved

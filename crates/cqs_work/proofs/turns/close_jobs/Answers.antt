@@ -42,4 +42,4 @@ loop-place-preserved g c =
     c.index-states-place.result c.actor_at-actor.result c.loop-place.invariant below refl
     c.actor_at-actor.ensures.resources c.actor_at-actor.ensures.turn c.actor_at-actor.ensures.place
     c.actor_at-actor.ensures.job c.in_ok-close_job.ensures.did c.in_ok-close_job.ensures.clear
-    c.in_ok-close_job.ensures.held c.in_ok-close_job.ensures.progress
+    c.in_ok-close_job.ensures.held c.in_ok-close_job.ensures.stage

@@ -11,5 +11,5 @@ pub returns-in-Stepping : goal.returns-in-Stepping
 returns-in-Stepping g c = record {
   did = no-line-else c.args.actor.now _ c.args.state.now.progress c.in-Stepping.is c.requires.stands;
   held = c.requires.held;
-  progress = refl;
+  stage = refl;
 }

@@ -2,7 +2,7 @@ use Rattle.std.proofs.Common.{get_or}
 use Rattle.cqs_work.specs.Desk.{Desk}
 use Rattle.cqs_work.specs.Hands.{at_hand}
 use Rattle.cqs_work.proofs.Acting.{on-ok-both}
-use Rattle.cqs_work.proofs.Turning.{Acting, acting-at, can-act, its-held, one-job-heard, one-job-runs, one-job-went}
+use Rattle.cqs_work.proofs.Turning.{Acting, acting-at, has-turn, its-held, one-job-heard, one-job-runs, one-job-went}
 use Rattle.cqs_work.proofs.turns.one_job.Goals as goal
 
 pub act-requires-clause-held : goal.act-requires-clause-held
@@ -15,11 +15,11 @@ act-requires-clause-held g c =
     c.index-states-place.result
     actor.resources actor.place actor.job c.requires.runnable c.requires.runs c.requires.place)
 
-pub act-requires-clause-can : goal.act-requires-clause-can
-act-requires-clause-can g c =
+pub act-requires-clause-turn : goal.act-requires-clause-turn
+act-requires-clause-turn g c =
     let actor = c.actor_at-actor.ensures in
     let f : Desk = at_hand g.F.SharedFloor.shared g.G.Gate.begun g.G.Gate.ended c.args.clerk.now in
-    can-act c.args.plan.now c.actor_at-actor.result f c.args.states.now
+    has-turn c.args.plan.now c.actor_at-actor.result f c.args.states.now
     (get_or c.args.states.now c.args.place c.index-states-place.result)
     (acting-at c.args.plan.now c.actor_at-actor.result f.floor c.args.states.now c.args.place
     c.index-states-place.result

@@ -23,6 +23,7 @@ const MOST_TURNS: u32 = 40_000;
 const JOBS: u32 = 4_096;
 const RESOURCES: u32 = 64;
 const MOST_STEPS: usize = 64;
+const MOST_RETRIES: u32 = 64;
 const LARGE: usize = 1 << 20;
 
 #[derive(Clone, Copy)]
@@ -36,6 +37,8 @@ struct Job {
     name: String,
     steps: Vec<Step>,
     deadline: Option<u32>,
+    within: Option<u32>,
+    retry: u32,
 }
 
 struct Plan {
@@ -50,7 +53,7 @@ fn plan(turns: u32, size: u32, job: impl Fn(u32) -> (Vec<Step>, Option<u32>)) ->
     let jobs = (0..JOBS)
         .map(|j| {
             let (steps, deadline) = job(j);
-            Job { name: format!("j{j}"), steps, deadline }
+            Job { name: format!("j{j}"), steps, deadline, within: None, retry: 0 }
         })
         .collect();
     Plan { turns, resources, jobs }
@@ -83,6 +86,16 @@ fn held(deadline: Option<u32>) -> Plan {
         }
         (steps, deadline)
     })
+}
+
+/// The same, but each of the others waits for ten turns at a time, and tries again as often as a job may.
+fn retries() -> Plan {
+    let mut plan = held(None);
+    plan.turns = 700;
+    for job in &mut plan.jobs[RESOURCES as usize..] {
+        (job.within, job.retry) = (Some(10), MOST_RETRIES);
+    }
+    plan
 }
 
 /// All jobs work through all turns, which are as many as fit the bytes of a plan.
@@ -119,6 +132,7 @@ fn named_plan(name: &str) -> Option<Plan> {
         "work" => Some(work()),
         "ended" => Some(ended()),
         "gaveup" => Some(held(Some(10))),
+        "retries" => Some(retries()),
         "moving" => Some(moving()),
         "events" => Some(events()),
         "takes" => Some(takes()),
@@ -150,7 +164,8 @@ fn generated(number: u32, jobs: u32) -> Plan {
                 steps.push(Step::Take(1));
             }
             steps.push(Step::Work(second % 4 + 1));
-            Job { name: format!("j{j}"), steps, deadline: (third % 3 == 0).then_some(third % 30 + 1) }
+            let deadline = (third % 3 == 0).then_some(third % 30 + 1);
+            Job { name: format!("j{j}"), steps, deadline, within: None, retry: 0 }
         })
         .collect();
     Plan { turns: 8 * jobs.len() as u32 + 16, resources: vec![("db".into(), 2), ("buf".into(), 1)], jobs }
@@ -158,7 +173,8 @@ fn generated(number: u32, jobs: u32) -> Plan {
 
 fn write_plan(plan: &Plan) -> String {
     let Plan { turns, resources, jobs } = plan;
-    let mut text = format!("version = 1\nturns = {turns}\n");
+    let version = if jobs.iter().any(|job| job.within.is_some()) { 2 } else { 1 };
+    let mut text = format!("version = {version}\nturns = {turns}\n");
     for (name, size) in resources {
         let _ = write!(text, "[semaphore.{name}]\nsize = {size}\n");
     }
@@ -175,6 +191,9 @@ fn write_plan(plan: &Plan) -> String {
         let _ = write!(text, "[[job]]\nname = \"{}\"\nsteps = [{}]\n", job.name, steps.join(", "));
         if let Some(deadline) = job.deadline {
             let _ = writeln!(text, "deadline = {deadline}");
+        }
+        if let Some(within) = job.within {
+            let _ = writeln!(text, "within = {within}\nretry = {}", job.retry);
         }
     }
     text
@@ -255,7 +274,7 @@ impl Semaphore {
 enum Progress {
     Ready(usize),
     Working(usize, u32),
-    Waiting(usize, usize, usize),
+    Waiting(usize, usize, usize, u32),
     Done,
     GaveUp,
     Late,
@@ -282,36 +301,40 @@ impl Run<'_> {
         }
     }
 
-    fn turn(&mut self, turn: u32, job: &Job, progress: &mut Progress, holds: &mut Vec<usize>) {
+    fn turn(&mut self, turn: u32, job: &Job, progress: &mut Progress, used: &mut u32, holds: &mut Vec<usize>) {
         let mut at = match *progress {
             Progress::Ready(at) => at,
             Progress::Working(_, until) if turn < until => return,
             Progress::Working(at, _) => at + 1,
-            Progress::Waiting(at, r, wait) => {
+            Progress::Waiting(at, r, wait, since) => {
                 let name = &self.resources[r].0;
                 let served = self.semaphores[r].waits[wait] == Wait::Served;
-                if job.deadline.is_some_and(|deadline| deadline <= turn) {
-                    if served {
-                        self.semaphores[r].ready -= 1;
-                        let _ = writeln!(self.report, "{turn} {} late {name} {wait}", job.name);
-                        holds.push(r);
-                        *progress = Progress::Late;
-                    } else {
-                        self.semaphores[r].waits[wait] = Wait::Gone;
-                        self.semaphores[r].inside -= 1;
-                        let _ = writeln!(self.report, "{turn} {} gaveup {name} {wait}", job.name);
-                        *progress = Progress::GaveUp;
-                    }
+                let due = job.deadline.is_some_and(|deadline| deadline <= turn);
+                let over = due || job.within.is_some_and(|within| since + within <= turn);
+                if !over && !served {
+                    return;
+                }
+                if served {
+                    self.semaphores[r].ready -= 1;
+                    holds.push(r);
+                } else {
+                    self.semaphores[r].waits[wait] = Wait::Gone;
+                    self.semaphores[r].inside -= 1;
+                }
+                if !over {
+                    let _ = writeln!(self.report, "{turn} {} served {name} {wait}", job.name);
+                    at + 1
+                } else if !served && !due && *used < job.retry {
+                    *used += 1;
+                    let _ = writeln!(self.report, "{turn} {} retries {name} {wait}", job.name);
+                    at
+                } else {
+                    let word = if served { "late" } else { "gaveup" };
+                    let _ = writeln!(self.report, "{turn} {} {word} {name} {wait}", job.name);
+                    *progress = if served { Progress::Late } else { Progress::GaveUp };
                     self.give_all(turn, job, holds);
                     return;
                 }
-                if !served {
-                    return;
-                }
-                self.semaphores[r].ready -= 1;
-                let _ = writeln!(self.report, "{turn} {} served {name} {wait}", job.name);
-                holds.push(r);
-                at + 1
             }
             Progress::Done | Progress::GaveUp | Progress::Late => return,
         };
@@ -325,7 +348,7 @@ impl Run<'_> {
                     let name = &self.resources[r].0;
                     if let Some(wait) = self.semaphores[r].take() {
                         let _ = writeln!(self.report, "{turn} {} waits {name} {wait}", job.name);
-                        *progress = Progress::Waiting(at, r, wait);
+                        *progress = Progress::Waiting(at, r, wait, turn);
                         return;
                     }
                     let _ = writeln!(self.report, "{turn} {} takes {name}", job.name);
@@ -365,10 +388,11 @@ fn run_and_mark(plan: &Plan) -> (String, usize) {
         .collect();
     let mut run = Run { resources, semaphores, report: String::new() };
     let mut progress = vec![Progress::Ready(0); jobs.len()];
+    let mut used = vec![0; jobs.len()];
     let mut holds: Vec<Vec<usize>> = vec![Vec::new(); jobs.len()];
     for turn in 0..*turns {
         for (i, job) in jobs.iter().enumerate() {
-            run.turn(turn, job, &mut progress[i], &mut holds[i]);
+            run.turn(turn, job, &mut progress[i], &mut used[i], &mut holds[i]);
         }
     }
     let end = run.report.len();

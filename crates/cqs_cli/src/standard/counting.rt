@@ -9,7 +9,7 @@ ghost use Rattle.std.specs.Io.KnownBytes.{Keeps, ReadConsumes, WriteAppends};
 ghost use Rattle.std.specs.IoError.{error_kind};
 ghost use Rattle.cqs_cli_streams.specs.Counts.{Rises};
 ghost use Rattle.cqs_cli_streams.specs.Tally.{after_call, bytes_of};
-ghost use Rattle.cqs_cli.specs.Standard.{IsCounted};
+ghost use Rattle.cqs_cli.specs.Standard.{IsCounted, counted_then};
 
 use cqs_cli_streams::{Failed, Tally};
 use std::io::{self, ErrorKind, Read, Write};
@@ -58,20 +58,28 @@ pub fn write_counted<W: Write>(
     answer
 }
 
+/// Shows that a writer was flushed, and what was counted of its calls by then. `flush_counted`
+/// alone makes one.
+#[derive(Drop)]
+pub struct Flushed {
+    counted: Tally,
+}
+
 /// One flush.
 pub fn flush_counted<W: Write>(
     writer: &mut W,
     tally: &mut Tally,
     faults: &mut u64,
-) -> Result<(), Failed>
+) -> Result<Flushed, Failed>
     ensures bytes { Keeps (W.contents writer.old) (W.contents writer.new) }
     ensures counted { tally.new ≡ after_call tally.old 0 }
+    ensures shown { IfOk result (λ flushed. counted_then flushed ≡ tally.new) }
     ensures fine { OnOk result (faults.new ≡ faults.old) }
     ensures cause { OnErr result (Rises faults.old faults.new) }
 {
     let answer = count_fault(writer.flush(), faults);
     tally.count(0);
-    answer
+    answer.map(|()| Flushed { counted: *tally })
 }
 
 /// Hands on what a call came to, and counts its failure.

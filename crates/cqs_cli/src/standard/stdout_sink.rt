@@ -1,9 +1,9 @@
 //! Standard output as a sink.
 
-ghost use Rattle.std.specs.Prelude.{◌≡◌, None, true};
+ghost use Rattle.std.specs.Prelude.{◌≡◌, None, false};
 ghost use Rattle.cqs_cli_streams.specs.Tally.{no_calls};
 
-use super::counting::{flush_counted, write_counted};
+use super::counting::{Flushed, flush_counted, write_counted};
 use cqs_cli_streams::{Failed, Sink, Tally};
 use std::io::Stdout;
 use std::marker::Model;
@@ -13,28 +13,31 @@ use std::marker::Model;
 #[derive(Drop)]
 pub struct StdoutSink {
     stdout: Stdout,
-    is_flushed: bool,
+    flushed: Option<Flushed>,
     tally: Tally,
     faults: u64,
 }
 
 impl Model for StdoutSink {
-    ghost use Rattle.cqs_cli.specs.Standard.{StandardOutput};
+    ghost use Rattle.cqs_cli.specs.Standard.{StandardOutput, shows_flush};
 
     ghost Value = { StandardOutput };
 
-    ghost view = { λ sink. record
-        { is_flushed = sink.is_flushed; tally = sink.tally; faults = sink.faults } };
+    ghost view = { λ sink. record {
+      is_flushed = shows_flush sink.flushed sink.tally;
+      tally = sink.tally;
+      faults = sink.faults;
+    } };
 }
 
 impl StdoutSink {
     /// Standard output before its first write.
     pub fn new(stdout: Stdout) -> StdoutSink
-        ensures { result ≡ record { is_flushed = true; tally = no_calls; faults = 0 } }
+        ensures { result ≡ record { is_flushed = false; tally = no_calls; faults = 0 } }
     {
         StdoutSink {
             stdout,
-            is_flushed: true,
+            flushed: None,
             tally: Tally::new(),
             faults: 0,
         }
@@ -57,13 +60,13 @@ impl Sink for StdoutSink {
     ghost flushes = { FlushesOn };
 
     fn write(&mut self, piece: &[u8]) -> Result<usize, Failed> {
-        self.is_flushed = false;
+        self.flushed = None;
         write_counted(&mut self.stdout, &mut self.tally, &mut self.faults, piece)
     }
 
     fn flush(&mut self) -> Result<(), Failed> {
-        flush_counted(&mut self.stdout, &mut self.tally, &mut self.faults)?;
-        self.is_flushed = true;
+        self.flushed = None;
+        self.flushed = Some(flush_counted(&mut self.stdout, &mut self.tally, &mut self.faults)?);
         Ok(())
     }
 }

@@ -16,11 +16,11 @@ use Rattle.cqs_rule_laws.specs.declared.view.Opening.{Opening}
 use Rattle.cqs_rule_laws.specs.declared.view.Spare.{Spare}
 use Rattle.cqs_rule_laws.specs.Drawn.{draws_in}
 use Rattle.cqs_rule_laws.specs.Hidden.{Hidden}
-use Rattle.cqs_rule_laws.specs.Layout.{client_words, slots_for}
+use Rattle.cqs_rule_laws.specs.Layout.{client_words}
 use Rattle.cqs_rule_laws.specs.Lists.{Has, IsDistinct, NamesOnly, IsPrefix}
 use Rattle.cqs_rule_laws.specs.Views.{all_own, weight, grown, Apart, IsSpent, SpentHasNone, WasCrew, first_facts}
-use Rattle.cqs_rule_laws.specs.Ruled.{Ruled, Knows, Sees, Stands, CountersShow, CellsShow, IdleWords, HasRoom, DoorMayDraw, number_at, IsKept, Rests, HasSecond, cell_count, IsFinal}
-use Rattle.cqs_slots.specs.Slots.{Segments, IsLater, IsHome, settled_in}
+use Rattle.cqs_rule_laws.specs.Ruled.{Ruled, Knows, Sees, Stands, CountersShow, CellsShow, IdleWords, HasRoom, DoorMayDraw, number_at, IsKept, Rests, HasSecond, cell_count, IsFinal, IsOver}
+use Rattle.cqs_slots.specs.Slots.{Segments, IsLater, settled_in}
 use Rattle.cqs_rule_laws.specs.Manner.{IsSmart}
 use Rattle.cqs_rule_laws.specs.Settling.{times}
 use Rattle.cqs_rule_laws.proofs.Duties.{counted-set}
@@ -100,14 +100,14 @@ slotted v facts seen handed crew alone drawn out laid =
 -- a view's numbers are those of cells, where the table has so many
 pub is-inside : {E S : Type 0} (w : View E S) (cells : ℕ) → w.cells ≡ cells → number_at w.facts.doing < cells
     → ((n : ℕ) → Has n w.facts.waits → n < cells) → IsDistinct w.facts.waits → w.facts.has.payload < 2 ^ 20
-    → ((s : ℕ) → 32 * s < w.cells → IsHome w.segments.homes s s) → IsInside w
-is-inside w cells are inside waits once owed flat = record {
+    → w.cells ≤ 32 * length w.segments.homes → IsInside w
+is-inside w cells are inside waits once owed made = record {
   number = subst (λ z. number_at w.facts.doing < z) (sym are) inside;
   waits = λ n h. subst (λ z. n < z) (sym are) (waits n h);
   once = λ n h. length_without n w.facts.waits once h;
   few = subst (λ z. length w.facts.waits ≤ z) (sym are) (few_below cells w.facts.waits once waits);
   payload = owed;
-  flat = flat;
+  made = made;
 }
 
 module _ {E S : Type 0} (object : Object E) where
@@ -166,11 +166,12 @@ module _ {E S : Type 0} (object : Object E) (primitive : Primitive E S) (passes 
     pub counters : CountersShow d.queue (slice_set s.words i x)
     pub now : Segments
     pub later : IsLater r.segments now
-    pub cells : CellsShow now d cells_of (slice_set s.words i x)
+    pub cells : CellsShow now d r.slots (slice_set s.words i x)
     pub settles : ℕ → Bool
     pub counts : (q : ℕ) → settled_in settles q + times q v.facts.duties + r.segments.counted q
         ≡ settled_in r.settled q + times q facts.duties + now.counted q
     pub finals : (k : ℕ) → settles k ≡ true → IsFinal (IsSmart primitive.manner.leaving) d.queue k
+    pub over : (k : ℕ) → IsOver (IsSmart primitive.manner.leaving) d.queue k → settles k ≡ true
     pub same_slots : (y : ℕ) → now.slots y ≡ r.segments.slots y
     pub same_spares : facts.spare_slots ≡ v.facts.spare_slots
     pub leaves : Leaves r.segments now v.facts.to_retire facts.to_retire
@@ -266,10 +267,11 @@ module _ {E S : Type 0} (object : Object E) (primitive : Primitive E S) (passes 
         cells = t.cells;
         settled = t.settles;
         finals = t.finals;
+        all_settled = t.over;
         counted = counted-set (λ (x : View E S). x.facts.duties) r.segments t.now r.settled t.settles s.views id v w
             here
             t.counts r.counted;
-        spares = spares-kept (slots_for cells_of) r.segments t.now s.views id v w here t.same_spares t.same_slots
+        spares = spares-kept r.slots r.segments t.now s.views id v w here t.same_spares t.same_slots
             r.spares;
         to_leave = leave-set r.segments t.now s.views id v w here t.later.outs t.leaves r.to_leave;
         idle_words = t.idle_words;
@@ -325,13 +327,14 @@ module _ {E S : Type 0} (object : Object E) (primitive : Primitive E S) (passes 
           sees = inl refl;
         };
         shelf = shelf;
+        slots = r.slots;
         segments = t.now;
         noted = set_all (λ j u. IsPrefix u.seen (r.log ++ es)) s.views id w ([], sym (append-nil _))
             (λ j u apart e. longer u.seen r.log es (r.noted j u e));
-        each_segment = set_all (λ j u. KnowsSegments t.now u) s.views id w
-            (let known = knows-later r.segments t.now v t.later (r.each_segment id v here) in
-            record { seen = known.seen; flat = known.flat })
-            (λ j u apart e. knows-later r.segments t.now u t.later (r.each_segment j u e));
+        each_segment = set_all (λ j u. KnowsSegments r.slots t.now u) s.views id w
+            (let known = knows-later r.slots r.segments t.now v t.later (r.each_segment id v here) in
+            record { seen = known.seen; slots_are = known.slots_are; made = known.made })
+            (λ j u apart e. knows-later r.slots r.segments t.now u t.later (r.each_segment j u e));
       }
 
   pub advance : (s : State (Option S) (View E S)) (r : R s) (id : ℕ) (cs : List (ℕ × Option S)) (v : View E S) (i x : ℕ)
@@ -365,6 +368,7 @@ module _ {E S : Type 0} (object : Object E) (primitive : Primitive E S) (passes 
           drawn = refl;
           limit = refl;
           cells = refl;
+          slots = refl;
           passes = refl;
           opening = refl;
           segments = sees-same v.segments;
@@ -397,5 +401,5 @@ module _ {E S : Type 0} (object : Object E) (primitive : Primitive E S) (passes 
         few = subst (λ z. facts.has.held ≤ object.most z) (sym k.opening_is) most;
         known = subst (λ z. object.knows z facts.has) (sym k.opening_is) known;
         inside = is-inside (grown v facts (r.log ++ es) r.handed) cells_of k.cells_are inside waits once owed
-            (r.each_segment id v here).flat;
+            (r.each_segment id v here).made;
       }

@@ -24,6 +24,7 @@ module _ {E S : Type 0} where
     drawn = refl;
     limit = refl;
     cells = refl;
+    slots = refl;
     passes = refl;
     opening = refl;
     segments = sees-same v.segments;
@@ -39,6 +40,7 @@ module _ {E S : Type 0} where
     drawn = q.drawn ∙ p.drawn;
     limit = q.limit ∙ p.limit;
     cells = q.cells ∙ p.cells;
+    slots = q.slots ∙ p.slots;
     passes = q.passes ∙ p.passes;
     opening = q.opening ∙ p.opening;
     segments = sees-then v.segments u.segments w.segments p.segments q.segments;

@@ -418,18 +418,19 @@ working misses v k is may = record { does = may; own = tt; at = tt; stand = λ x
 module _ {E S : Type 0} (object : Object E) (primitive : Primitive E S) (passes limit : ℕ)
     (client : IsClient object primitive) where
   -- a load of this row leaves the words, which show the cells as the step leaves them
-  cells-loaded : (s : State (Option S) (View E S)) (r : Ruled object primitive passes limit s) (p k word payload : ℕ)
-      (row : CellRow) (found : CoreCell) (has : OwnHas) (is : IsCellRow row) (sound : IsSound r.hidden.queue)
+  pub cells-loaded : (s : State (Option S) (View E S)) (r : Ruled object primitive passes limit s)
+      (p k word payload : ℕ) (row : CellRow) (found : CoreCell) (has : OwnHas) (is : IsCellRow row)
+      (sound : IsSound r.hidden.queue)
       (opens : IsOpenRow r.hidden.queue (at_cell row) p k (Some found)) → row.makes ≡ None
       → CellsShow r.segments (happened_by object.gains r.hidden (at_cell row) p k (Some found) has payload)
-      (cell_count passes limit primitive.values) (slice_set s.words word (slice_index s.words word))
+      r.slots (slice_set s.words word (slice_index s.words word))
   cells-loaded s r p k word payload row found has is sound opens loads =
       let c = r.hidden in
       let d = happened_by object.gains c (at_cell row) p k (Some found) has payload in
       let same = loaded-same object.gains c p k row found has payload is sound opens loads in
       let words : slice_set s.words word (slice_index s.words word) ≡ s.words = set-get_or s.words word 0 in
-      subst (CellsShow r.segments d (cell_count passes limit primitive.values)) (sym words)
-      (cells-same r.segments c d (cell_count passes limit primitive.values) s.words
+      subst (CellsShow r.segments d r.slots) (sym words)
+      (cells-same r.segments c d r.slots s.words
       (λ j. dite (ℕ_discrete j k)
       (λ (e : j ≡ k). subst (λ z. state_at d.queue z ≡ state_at c.queue z) (sym e) same.0)
       (λ (a : j ≢ k). state-else object.gains c p k row found has payload is sound opens j a))
@@ -449,18 +450,18 @@ module _ {E S : Type 0} (object : Object E) (primitive : Primitive E S) (passes 
       (k j word : ℕ) → get_elem? s.views id ≡ some v → 0 < v.weight → KnowsPlace v (place_at word k)
       → KnowsPlace v (place_at word j) → lists.Has k v.facts.waits → lists.Has j v.facts.waits → k ≡ j
   same-wait s r id v k j word here on a b mine too =
-      one-number r.segments r.hidden (cell_count passes limit primitive.values) s.words r.settled
+      one-number r.segments r.hidden r.slots s.words r.settled
       (duties_in (λ (z : View E S). z.facts.duties) s.views) v word k j r.cells r.counted (r.each_segment id v
       here).seen
       (unsettled-wait s r id v k here on mine) (unsettled-wait s r id v j here on too) a b
 
   -- what anybody finds who knows the place of the number k
-  watched : (s : State (Option S) (View E S)) (r : Ruled object primitive passes limit s) (id : ℕ) (v : View E S)
+  pub watched : (s : State (Option S) (View E S)) (r : Ruled object primitive passes limit s) (id : ℕ) (v : View E S)
       (k word : ℕ) → get_elem? s.views id ≡ some v → KnowsPlace v (place_at word k)
       → (slice_index s.words word ≡ word_at r.hidden k)
       ⊎ ((rank (state_at r.hidden.queue k) ≡ 4) × (k < index_in (slice_index s.words word)))
   watched s r id v k word here place =
-      let cells = cell_count passes limit primitive.values in
+      let cells = r.slots in
       let duties = duties_in (λ (z : View E S). z.facts.duties) s.views in
       let knows = (r.each_segment id v here).seen in
       ⊎_elim
@@ -837,8 +838,8 @@ module _ {E S : Type 0} (object : Object E) (primitive : Primitive E S) (passes 
 
 -- the word of a load is one of the table's
 pub load-low : {E S : Type 0} (v : View E S) (word : ℕ) (load : LoadStep) → IsInside v → MayLoad load v word
-    → word < words_for v.cells
-load-low v word counts inside may = subst (λ z. z < words_for v.cells) (sym may) (suspends-inside v.cells)
+    → word < words_for v.slots
+load-low v word counts inside may = subst (λ z. z < words_for v.slots) (sym may) (suspends-inside v.slots)
 load-low v word watches inside may = place-low v may.0 word may.1
 load-low v word polls inside may = place-low v may.0 word may.1
 load-low v word cancels inside may = place-low v may.0 word may.1

@@ -60,6 +60,8 @@ use Rattle.cqs_rule_laws.proofs.Tells.{Steps, steps, inside-of, suspends-low, re
 use Rattle.cqs_rule_laws.proofs.Words.{crew-else, counters-else, idle-else, client-above}
 use Rattle.cqs_rule_laws.proofs.Duties.{counts-then}
 use Rattle.cqs_rule_laws.proofs.Settled.{rank-most, NoTicket, no-ticket-after, Settled, final-after, finals-on}
+use Rattle.cqs_rule_laws.proofs.Over.{over-settled}
+use Rattle.cqs_rule_laws.proofs.Outs.{untaken, cancelling}
 use Rattle.cqs_rule_laws.proofs.Stale.{found-there, stale-fails, false-or-true}
 use Rattle.cqs_rule_laws.proofs.Staying.{OthersStay}
 use Rattle.cqs_rule_laws.proofs.Worked.{states-final, waits-final, state-else, payload-else, payload-here, state-here, bare-here, left-fits, others-worked, worked-self, gained-fits}
@@ -223,13 +225,12 @@ module _ {E S : Type 0} (object : Object E) (primitive : Primitive E S) (passes 
       ⊎ ((state_at r.hidden.queue k ≡ state.Cancelled) × IsSmart primitive.manner.leaving
       × (k < index_in (slice_index s.words word)))
   seen-word s r id v k word at here is sound stood stands does own place = ⊎_elim
-      (λ (yet : r.settled k ≡ false). inl (cell-at r.segments r.hidden (cell_count passes limit primitive.values)
-      s.words
+      (λ (yet : r.settled k ≡ false). inl (cell-at r.segments r.hidden r.slots s.words
       r.settled (duties_in (λ (z : View E S). z.facts.duties) s.views) v k word r.cells r.counted
       (r.each_segment id v here).seen yet place).shows)
       (λ (done : r.settled k ≡ true).
       let final = r.finals k done in
-      let there = found-there r.segments r.hidden (cell_count passes limit primitive.values) s.words r.settled
+      let there = found-there r.segments r.hidden r.slots s.words r.settled
       (duties_in (λ (z : View E S). z.facts.duties) s.views) v k word r.cells r.counted (r.each_segment id v here).seen
       (λ j q. (r.finals j q).final) place in
       let more = there.1 in
@@ -241,30 +242,6 @@ module _ {E S : Type 0} (object : Object E) (primitive : Primitive E S) (passes 
     where
       rank-is : IsFinal (IsSmart primitive.manner.leaving) r.hidden.queue k → rank stood.cell.state ≡ 4
       rank-is f = sym (ap rank (ap state_in stood.there)) ∙ f.final
-
-      untaken : (x : CoreState) → MayFind stage.drawn x → rank x ≡ 4 → ⊥
-      untaken state.Empty m h = omega arith
-      untaken state.Value m h = omega arith
-      untaken state.Waiter m h = m
-      untaken state.Taken m h = m
-      untaken state.Broken m h = m
-      untaken state.Resumed m h = m
-      untaken state.Cancelling m h = m
-      untaken state.Delegated m h = m
-      untaken state.Cancelled m h = m
-      untaken state.Refused m h = m
-
-      cancelling : (x : CoreState) → MayFind stage.leaving x → rank x ≡ 4 → ⊥
-      cancelling state.Cancelling m h = omega arith
-      cancelling state.Delegated m h = omega arith
-      cancelling state.Empty m h = m
-      cancelling state.Value m h = m
-      cancelling state.Waiter m h = m
-      cancelling state.Taken m h = m
-      cancelling state.Broken m h = m
-      cancelling state.Resumed m h = m
-      cancelling state.Cancelled m h = m
-      cancelling state.Refused m h = m
 
       ticket : (a : Stage) → IsFinal (IsSmart primitive.manner.leaving) r.hidden.queue k → IsAtCell a
           → MayFind a stood.cell.state → v.facts.doing ≡ doing_at a k → IsOwnWait a k v.facts
@@ -286,11 +263,11 @@ module _ {E S : Type 0} (object : Object E) (primitive : Primitive E S) (passes 
       (state_at (happened_by object.gains r.hidden (at_cell row) p k (Some found) has payload).queue k)
       ((happened_by object.gains r.hidden (at_cell row) p k (Some found) has payload).payloads k)
       → CellsShow r.segments (happened_by object.gains r.hidden (at_cell row) p k (Some found) has payload)
-      (cell_count passes limit primitive.values) (slice_set s.words word x)
+      r.slots (slice_set s.words word x)
   cells-worked s r p k word x payload row found has is sound opens fits stands written =
       let c = r.hidden in
       let d = happened_by object.gains c (at_cell row) p k (Some found) has payload in
-      set-cell r.segments c d (cell_count passes limit primitive.values) s.words k word x r.cells stands
+      set-cell r.segments c d r.slots s.words k word x r.cells stands
       (state-else object.gains c p k row found has payload is sound opens)
       (payload-else object.gains c p k row found has payload is sound opens) written
       (subst (λ z. z < 2 ^ 20) (sym (payload-here object.gains c p k row found has payload is sound opens))
@@ -344,7 +321,7 @@ module _ {E S : Type 0} (object : Object E) (primitive : Primitive E S) (passes 
       → ((j : ℕ) → IsIdle j → j ≢ word) → (settles_row row ≡ true → r.settled k ≡ false)
       → payload ≡ payload_told row.gain (r.hidden.payloads k) me.0.facts.has.payload
       → CellsShow r.segments (happened_by object.gains r.hidden (at_cell row) me.0.number k
-      (Some found) me.0.facts.has payload) (cell_count passes limit primitive.values) (slice_set s.words word x)
+      (Some found) me.0.facts.has payload) r.slots (slice_set s.words word x)
       → Steps object primitive passes limit client s id me word x (object.entries st me.0.number k payload)
       (facts_worked object.gains row k (slice_index s.words word) payload me.0.facts)
       (grown me.0 (facts_worked object.gains row k (slice_index s.words word) payload me.0.facts)
@@ -412,6 +389,9 @@ module _ {E S : Type 0} (object : Object E) (primitive : Primitive E S) (passes 
             (worked-self object.gains c p k row found f.has payload row_is sound opens n f refl at safe) refl refl
             r.finals
             (settles_row row) refl;
+        over = over-settled primitive.manner c.queue p k found sound r.settled st row is suits opens
+            (state-else object.gains c p k row found f.has payload row_is sound opens) r.all_settled (settles_row row)
+            refl;
         same_slots = λ y. refl;
         same_spares = refl;
         leaves = leaves-same r.segments _;
@@ -438,7 +418,7 @@ module _ {E S : Type 0} (object : Object E) (primitive : Primitive E S) (passes 
       (let lower : rank row.finds < rank x.state =
       (subst (λ z. RowGoesOn row.finds z row.brings) x.makes row_is.goes_on).0 in
       let most = rank-most x.state in
-      let there = stale-fails r.segments c (cell_count passes limit primitive.values) s.words r.settled
+      let there = stale-fails r.segments c r.slots s.words r.settled
       (duties_in (λ (z : View E S). z.facts.duties) s.views) v k word r.cells r.counted (r.each_segment id v here).seen
       (λ j is. (r.finals j is).final) x.place row.finds x.payload x.payload_fits (omega arith) (e ∙ x.expects) in
       let stands = there.3 in
@@ -606,7 +586,7 @@ module _ {E S : Type 0} (object : Object E) (primitive : Primitive E S) (passes 
 -- the word of an exchange is one of the table's
 pub crossing-low : {E S : Type 0} (st : QueueStep) (v : View E S) (word expected new : ℕ) → InView v
     → IsCrossing st v word expected new
-    → word < words_for v.cells
+    → word < words_for v.slots
 crossing-low {E} {S} st v word expected new inside x = by (row_of st) (rows st) x
   where
     number : (at : Stage) (k : ℕ) → IsAtCell at → v.facts.doing ≡ doing_at at k → IsOwnWait at k v.facts → k < v.cells
@@ -619,7 +599,7 @@ crossing-low {E} {S} st v word expected new inside x = by (row_of st) (rows st) 
     number (stage.decided on) k at does own = subst (λ d. number_at d < v.cells) does inside.number
 
     by : (row : StepRow) → IsRow row → MayExchange row v (index_in expected) word expected new
-        → word < words_for v.cells
+        → word < words_for v.slots
     by (at_counter row) is x = absurd x
     by (at_cell row) is x =
         place-low v (index_in expected) word x.place

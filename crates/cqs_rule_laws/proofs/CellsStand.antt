@@ -16,10 +16,8 @@ use Rattle.cqs_slots.proofs.Stands.{stands}
 use Rattle.cqs_slots.proofs.Writes.{written, cells-written}
 use Rattle.cqs_rule_laws.specs.declared.view.View.{View}
 use Rattle.cqs_rule_laws.specs.Hidden.{Hidden, state_at}
-use Rattle.cqs_rule_laws.specs.Layout.{client_place, slots_for, words_for, IsIdle}
-use Rattle.cqs_rule_laws.specs.declared.config.Place.{Place}
-use Rattle.cqs_rule_laws.specs.Inside.{IsInside}
-use Rattle.cqs_rule_laws.specs.Placed.{KnowsPlace, place_at, place_word, place_known}
+use Rattle.cqs_rule_laws.specs.Layout.{client_place, words_for, IsIdle}
+use Rattle.cqs_rule_laws.specs.Placed.{KnowsPlace, place_at, place_word}
 use Rattle.cqs_rule_laws.specs.Ruled.{CellsShow, word_of, word_at, shown_state}
 use Rattle.cqs_rule_laws.proofs.Cells.{same-or-not}
 
@@ -56,7 +54,7 @@ place-stands t c cells words settled duties v k word show counted knows yet plac
     let home : IsHome t.homes (k / 32) p.0 = home-prefix v.segments.homes t.homes (k / 32) p.0 knows.homes p.1 in (
       p.0,
       home,
-      stands (slots_for cells) t settled duties (k / 32) p.0 (k % 32) show.sound counted home (place-few k)
+      stands cells t settled duties (k / 32) p.0 (k % 32) show.sound counted home (place-few k)
           (ap settled (number-split k) ∙ yet),
       p.3,
     )
@@ -88,13 +86,13 @@ pub set-cell : (t : Segments) (c d : Hidden) (cells : ℕ) (words : List ℕ) (k
     → x ≡ word_of k (state_at d.queue k) (d.payloads k) → d.payloads k < 2 ^ 20
     → (IsBare (state_at d.queue k) → d.payloads k ≡ 0) → CellsShow t d cells (slice_set words word x)
 set-cell t c d cells words k word x show at states payloads makes fits bare = record {
-  shows = subst (λ i. Shows (slots_for cells) t (word_at d) (slice_set words i x)) (sym at.is)
-      (written (slots_for cells) t (word_at c) (word_at d) words show.shows show.sound (k / 32) at.slot (k % 32) x
+  shows = subst (λ i. Shows cells t (word_at d) (slice_set words i x)) (sym at.is)
+      (written cells t (word_at c) (word_at d) words show.shows show.sound (k / 32) at.slot (k % 32) x
       at.home (place-few k) at.seg (makes ∙ ap (word_at d) (sym (number-split k)))
       (ap index_in makes ∙ (word-number k (state_at d.queue k) (d.payloads k) fits ∙ sym (number-split k)))
       (show.made.numbered (32 * (k / 32) + k % 32)) others);
   sound = show.sound;
-  made = cells-written t (slots_for cells) (word_at c) (word_at d) (k / 32) at.slot (k % 32) show.sound at.home
+  made = cells-written t cells (word_at c) (word_at d) (k / 32) at.slot (k % 32) show.sound at.home
       (place-few k)
       (subst (λ z. index_in (word_at d z) ≡ z) (sym (number-split k))
       (word-number k (state_at d.queue k) (d.payloads k) fits)) others show.made;
@@ -135,7 +133,7 @@ one-number t c cells words settled duties v word k j show counted knows yet too 
 
 module _ {E S : Type 0} (v : View E S) where
   -- a place is one of the table's words
-  pub place-low : (k word : ℕ) → KnowsPlace v (place_at word k) → word < words_for v.cells
+  pub place-low : (k word : ℕ) → KnowsPlace v (place_at word k) → word < words_for v.slots
   place-low k word place =
       let p = place_word v (place_at word k) place in
       let low = p.2 in
@@ -150,9 +148,3 @@ module _ {E S : Type 0} (v : View E S) where
       let p = place_word v (place_at word k) place in
       let e = p.3 in
       (omega arith, λ i idle same. let before = idle.before in omega arith)
-
-  -- as long as no slot is used again, a number has its word for good
-  pub place-flat : (at : Place) → IsInside v → at.index < v.cells
-      → at.word ≡ 48 * (at.index / 32) + (144 + at.index % 32) → KnowsPlace v at
-  place-flat at inside low word =
-      place_known v at (at.index / 32) (inside.flat (at.index / 32) (omega arith)) (omega arith) word

@@ -37,12 +37,13 @@ use Rattle.cqs_rule_laws.specs.Kinds.{Carries, pays_owed}
 use Rattle.cqs_rule_laws.specs.Layout.{words_for, client_words}
 use Rattle.cqs_rule_laws.specs.Manner.{Suits}
 use Rattle.cqs_rule_laws.specs.Object.{Object, Primitive}
-use Rattle.cqs_rule_laws.specs.Ruled.{Ruled, IsWaitOf, Stands, cell_count, number_at}
+use Rattle.cqs_rule_laws.specs.Ruled.{Ruled, IsWaitOf, Stands, number_at}
 use Rattle.cqs_rule_laws.specs.Saw.{IsLive}
 use Rattle.cqs_rule_laws.specs.Slots.{laid_in}
 use Rattle.cqs_rule_laws.specs.Views.{grown}
 use Rattle.cqs_rule_laws.specs.Manner.{IsSmart}
 use Rattle.cqs_rule_laws.proofs.ToRetire.{leaves-same}
+use Rattle.cqs_rule_laws.proofs.Over.{over-same}
 use Rattle.cqs_rule_laws.proofs.Settled.{finals-on}
 use Rattle.cqs_rule_laws.proofs.CellPlaces.{behind-suspends, behind-resumes, suspends-inside, resumes-inside}
 use Rattle.cqs_rule_laws.proofs.Cells.{written_same, made_same, pushed-back, installed-drawn, since-on}
@@ -341,7 +342,7 @@ module _ {E S : Type 0} (object : Object E) (primitive : Primitive E S) (passes 
       let low = suspends-low passes limit primitive.values c r.room in
       let sound : IsSound c.queue = client.sound c (client_words s.words) r.log r.handed r.shown in
       let after : x ≡ k + 1 = omega arith in
-      let inside = suspends-inside (cell_count passes limit primitive.values) in
+      let inside = suspends-inside r.slots in
       let wide = r.cells.shows.wide in
       let d = drawn object.gains c p n at cost found f.has payload in
       let row = suspend_row object.gains c p n at cost found f.has payload in
@@ -362,7 +363,7 @@ module _ {E S : Type 0} (object : Object E) (primitive : Primitive E S) (passes 
           suspends = this-word s.words 16 x (omega arith) ∙ after;
           resumes = other-word s.words 16 32 x (λ e. omega arith) ∙ r.counters.resumes;
         };
-        cells = cells-else r.segments c d (cell_count passes limit primitive.values) s.words 16 x behind-suspends
+        cells = cells-else r.segments c d r.slots s.words 16 x behind-suspends
             (λ j. drawn-state c p n found j refl) (λ j. refl) r.cells;
         idle_words = idle-else s.words 16 x (λ j is. is.suspends) r.idle_words;
         room = record {
@@ -394,6 +395,8 @@ module _ {E S : Type 0} (object : Object E) (primitive : Primitive E S) (passes 
             (others-drawn object.gains c p n at cost found f.has payload refl next sound) stands
             (drawn-self object.gains c p n at cost found f.has payload n f refl refl refl next sound stands)
             (λ j high. drawn-state c p n found j refl) (λ j high h. h) (λ j e. absurd (cc)) (omega arith) r.finals;
+        over = λ j o. r.all_settled j (over-same (IsSmart primitive.manner.leaving) c.queue d.queue j
+            (drawn-state c p n found j refl) (λ m w. drawn-wait c p n found m j refl next w) o);
         same_slots = λ y. refl;
         same_spares = refl;
         leaves = leaves-same r.segments _;
@@ -464,7 +467,7 @@ module _ {E S : Type 0} (object : Object E) (primitive : Primitive E S) (passes 
       let ground = r.room.ground in
       let low = resumes-low passes limit primitive.values c r.room in
       let after : x ≡ k + 1 = omega arith in
-      let inside = resumes-inside (cell_count passes limit primitive.values) in
+      let inside = resumes-inside r.slots in
       let wide = r.cells.shows.wide in
       let d = reached object.gains c p n at cost found f.has payload in
       let row = resume_row object.gains c p n at cost found f.has payload in
@@ -485,7 +488,7 @@ module _ {E S : Type 0} (object : Object E) (primitive : Primitive E S) (passes 
           suspends = other-word s.words 32 16 x (λ e. omega arith) ∙ r.counters.suspends;
           resumes = this-word s.words 32 x (omega arith) ∙ after;
         };
-        cells = cells-else r.segments c d (cell_count passes limit primitive.values) s.words 32 x behind-resumes
+        cells = cells-else r.segments c d r.slots s.words 32 x behind-resumes
             (λ j. reached-state c p n found j) (λ j. refl) r.cells;
         idle_words = idle-else s.words 32 x (λ j is. is.resumes) r.idle_words;
         room = record {
@@ -518,6 +521,8 @@ module _ {E S : Type 0} (object : Object E) (primitive : Primitive E S) (passes 
             (reached-self object.gains c p n at cost found f.has payload n f refl refl next stands)
             (λ j high. reached-state c p n found j) (λ j high h. h)
             (λ j e. inr (let q : n ≡ j = ap number_at e in omega arith)) (omega arith) r.finals;
+        over = λ j o. r.all_settled j (over-same (IsSmart primitive.manner.leaving) c.queue d.queue j
+            (reached-state c p n found j) (λ m w. reached-wait c p n found m j w) o);
         same_slots = λ y. refl;
         same_spares = refl;
         leaves = leaves-same r.segments _;

@@ -93,7 +93,7 @@ live-lessened object v gives known l = record {
     once = l.inside.once;
     few = l.inside.few;
     payload = omega (arith, l.inside.payload, lessened-payload gives v.facts.has);
-    flat = l.inside.flat;
+    made = l.inside.made;
   };
 }
 
@@ -112,6 +112,6 @@ live-before object v w l = record {
     once = l.inside.once;
     few = l.inside.few;
     payload = l.inside.payload;
-    flat = l.inside.flat;
+    made = l.inside.made;
   };
 }

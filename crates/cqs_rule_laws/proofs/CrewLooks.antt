@@ -95,7 +95,7 @@ module _ {E S : Type 0} (object : Object E) (primitive : Primitive E S) (passes 
       let n = slice_index s.words 0 in
       let t = still object primitive passes limit client s r v 0 r.hidden v.facts
       r.counters r.cells r.room r.door r.shown (others-same r.hidden v.number) k.stands k.payload_fits
-      (keeps-same primitive.opens v) refl refl refl refl r.finals in (
+      (keeps-same primitive.opens v) refl refl refl refl r.finals r.all_settled in (
         advance object primitive passes limit s r id me.1 v 0 n r.hidden [] v.facts n alone drawn here one
             (inr r.crew.word) sole knows t,
         (steps object primitive passes limit client s r id me 0 n r.hidden [] v.facts here one t).1,

@@ -18,7 +18,7 @@ use Rattle.cqs_rule_laws.proofs.Spares.{spares-kept, spares-joined}
 use Rattle.cqs_rule_laws.proofs.ToRetire.{leave-kept, leave-joined}
 use Rattle.cqs_rule_laws.proofs.Duties.{counted-kept, counted-joined}
 use Rattle.cqs_rule_laws.specs.Hidden.{hands_over}
-use Rattle.cqs_rule_laws.specs.Layout.{client_words, slots_for}
+use Rattle.cqs_rule_laws.specs.Layout.{client_words}
 use Rattle.cqs_rule_laws.specs.Lists.{Has, IsPrefix}
 use Rattle.cqs_rule_laws.specs.Views.{all_own, weight, IsSpent, Tip, first_facts, single, joined, spent, has_both, has_none}
 use Rattle.cqs_rule_laws.specs.Ruled.{Ruled, IsKept, Knows, Stands, cell_count}
@@ -94,12 +94,13 @@ module _ {E S : Type 0} (object : Object E) (primitive : Primitive E S) (passes 
         };
         settled = r.settled;
         finals = r.finals;
+        all_settled = r.all_settled;
         counted = counted-joined (λ (x : View E S). x.facts.duties) r.segments r.settled s.views id other v u w spent
             here
             at-other (λ e. apart (sym e)) refl refl r.counted;
         to_leave = leave-joined r.segments s.views id other v u w spent here at-other (λ e. apart (sym e)) refl
             r.to_leave;
-        spares = spares-joined (slots_for (cell_count passes limit primitive.values)) r.segments s.views id other v u w
+        spares = spares-joined r.slots r.segments s.views id other v u w
             spent here at-other (λ e. apart (sym e)) refl refl r.spares;
         idle_words = r.idle_words;
         room = record {
@@ -116,14 +117,19 @@ module _ {E S : Type 0} (object : Object E) (primitive : Primitive E S) (passes 
         shown = client.hands r.hidden from to u.facts.has v.facts.has
             (client_words s.words) r.log r.handed r.shown differ
             (p.stands.doing ∙ ap Some idle') (k.stands.doing ∙ ap Some idle) p.stands.has k.stands.has;
+        slots = r.slots;
         segments = r.segments;
         noted = set_all (λ j x. IsPrefix x.seen r.log) mid other spent (r.log, refl)
             (λ j x b e. set_all (λ i y. IsPrefix y.seen r.log) s.views id w (r.noted id v here)
             (λ i y a at. r.noted i y at) j x e);
-        each_segment = set_all (λ j x. KnowsSegments r.segments x) mid other spent
-            (record { seen = knows-nothing r.segments; flat = λ q low. absurd (omega arith) })
-            (λ j x b e. set_all (λ i y. KnowsSegments r.segments y) s.views id w
-            (record { seen = (r.each_segment id v here).seen; flat = (r.each_segment id v here).flat })
+        each_segment = set_all (λ j x. KnowsSegments r.slots r.segments x) mid other spent
+            (record { seen = knows-nothing r.segments; slots_are = λ on. absurd (omega arith); made = omega arith })
+            (λ j x b e. set_all (λ i y. KnowsSegments r.slots r.segments y) s.views id w
+            (record {
+              seen = (r.each_segment id v here).seen;
+              slots_are = λ on. (r.each_segment id v here).slots_are (omega arith);
+              made = (r.each_segment id v here).made;
+            })
             (λ i y a at. r.each_segment i y at) j x e);
         each_view = set_all P mid other spent (λ live. absurd (omega arith))
             (λ j x b e. set_all (λ i y. i ≢ other → P i y) s.views id w
@@ -307,24 +313,30 @@ module _ {E S : Type 0} (object : Object E) (primitive : Primitive E S) (passes 
             live_is = let t = total_set weight s.views id v w here in omega arith;
           };
           counters = counters-stay r.hidden.queue s.words x r.counters;
-          cells = cells-stay r.segments r.hidden (cell_count passes limit primitive.values) s.words x r.cells;
+          cells = cells-stay r.segments r.hidden r.slots s.words x r.cells;
           settled = r.settled;
           finals = r.finals;
+          all_settled = r.all_settled;
           counted = counted-kept (λ (x : View E S). x.facts.duties) r.segments r.settled s.views id v w here refl
               r.counted;
           to_leave = leave-kept r.segments s.views id v w here refl r.to_leave;
-          spares = spares-kept (slots_for (cell_count passes limit primitive.values)) r.segments r.segments s.views id v
+          spares = spares-kept r.slots r.segments r.segments s.views id v
               w here refl (λ y. refl) r.spares;
           idle_words = idle-stay s.words x r.idle_words;
           room = r.room;
           door = r.door;
           shown = subst (λ l. primitive.shows r.hidden l r.log r.handed)
               (sym (client-below s.words 0 x (omega arith))) r.shown;
+          slots = r.slots;
           segments = r.segments;
           noted = set_all (λ j u. IsPrefix u.seen r.log) s.views id w ([], sym (append-nil _))
               (λ j u apart at. r.noted j u at);
-          each_segment = set_all (λ j u. KnowsSegments r.segments u) s.views id w
-              (record { seen = (r.each_segment id v here).seen; flat = (r.each_segment id v here).flat })
+          each_segment = set_all (λ j u. KnowsSegments r.slots r.segments u) s.views id w
+              (record {
+                seen = (r.each_segment id v here).seen;
+                slots_are = λ on. (r.each_segment id v here).slots_are (omega arith);
+                made = (r.each_segment id v here).made;
+              })
               (λ j u apart at. r.each_segment j u at);
           each_view = set_all P s.views id w
               (λ live. record {
@@ -403,6 +415,7 @@ module _ {E S : Type 0} (object : Object E) (primitive : Primitive E S) (passes 
             theirs = λ j h. sym (k.sees.theirs j h);
             limit = refl;
             cells = refl;
+            slots = refl;
             opening = refl;
             passes = refl;
             segments = sees-same v.segments;
@@ -426,8 +439,7 @@ module _ {E S : Type 0} (object : Object E) (primitive : Primitive E S) (passes 
                 (inside-of passes limit primitive.values r.hidden v.number v.facts.doing r.room
                 (client.sound r.hidden (client_words s.words) r.log r.handed r.shown) k.stands.doing)
                 (λ j h. let drawn = (k.stands.waits j h).drawn in let g = r.room.ground in omega arith)
-                k.stands.once k.payload_fits
-                (r.each_segment id v here).flat;
+                k.stands.once k.payload_fits (r.each_segment id v here).made;
           },
           refl,
         ),

@@ -19,7 +19,7 @@ use Rattle.cqs_rule_laws.proofs.ToRetire.{leave-kept, leave-more}
 use Rattle.cqs_rule_laws.proofs.Duties.{counted-kept, counted-more}
 use Rattle.cqs_rule_laws.specs.Hidden.{Hidden, hands_over}
 use Rattle.cqs_words.specs.Crew.{crew_word}
-use Rattle.cqs_rule_laws.specs.Layout.{client_words, slots_for}
+use Rattle.cqs_rule_laws.specs.Layout.{client_words}
 use Rattle.cqs_rule_laws.specs.Lists.{Has, IsPrefix}
 use Rattle.cqs_rule_laws.specs.Views.{all_own, weight, grown, Tip, first_facts, made_in, live_in, crew_turn, first_has, facts_lessened, has_less, single, cut_off}
 use Rattle.cqs_rule_laws.specs.Ruled.{Ruled, IsKept, Knows, Stands, cell_count}
@@ -131,7 +131,7 @@ module _ {E S : Type 0} (object : Object E) (primitive : Primitive E S) (passes 
           λ p has there. subst (λ z. object.knows z has) (sym k.opening_is)
           (client.slots.known d (client_words s.words) r.log r.handed p has shown there) in
           let shows_cells =
-          cells-stay r.segments r.hidden (cell_count passes limit primitive.values) s.words x r.cells in
+          cells-stay r.segments r.hidden r.slots s.words x r.cells in
           let base = subst (λ h. Saw object v v.facts [] (grown v v.facts h r.handed)) (append-nil r.log) told in
           let P : ℕ → View E S → Type 0 =
           λ j u. 0 < u.weight → Knows object d r.log r.handed (r.made + 1) (r.live + 1) passes limit
@@ -162,10 +162,11 @@ module _ {E S : Type 0} (object : Object E) (primitive : Primitive E S) (passes 
               };
               settled = r.settled;
               finals = r.finals;
+              all_settled = r.all_settled;
               counted = counted-kept (λ (x : View E S). x.facts.duties) r.segments r.settled s.views id v w
                   here refl r.counted;
               to_leave = leave-kept r.segments s.views id v w here refl r.to_leave;
-              spares = spares-kept (slots_for (cell_count passes limit primitive.values)) r.segments r.segments s.views
+              spares = spares-kept r.slots r.segments r.segments s.views
                   id v w here refl (λ y. refl) r.spares;
               idle_words = idle-stay s.words x r.idle_words;
               room = record {
@@ -182,11 +183,16 @@ module _ {E S : Type 0} (object : Object E) (primitive : Primitive E S) (passes 
               shown = subst (λ l. primitive.shows d l r.log r.handed)
                   (sym (client-below s.words 0 x (omega arith)))
                   shown;
+              slots = r.slots;
               segments = r.segments;
               noted = set_all (λ j u. IsPrefix u.seen r.log) s.views id w ([], sym (append-nil _))
                   (λ j u apart at. r.noted j u at);
-              each_segment = set_all (λ j u. KnowsSegments r.segments u) s.views id w
-                  (record { seen = (r.each_segment id v here).seen; flat = (r.each_segment id v here).flat })
+              each_segment = set_all (λ j u. KnowsSegments r.slots r.segments u) s.views id w
+                  (record {
+                    seen = (r.each_segment id v here).seen;
+                    slots_are = λ on. (r.each_segment id v here).slots_are (omega arith);
+                    made = (r.each_segment id v here).made;
+                  })
                   (λ j u apart at. r.each_segment j u at);
               each_view = set_all P s.views id w
                   (λ live. record {
@@ -302,6 +308,7 @@ module _ {E S : Type 0} (object : Object E) (primitive : Primitive E S) (passes 
                     drawn = refl;
                     limit = refl;
                     cells = refl;
+                    slots = refl;
                     passes = refl;
                     opening = refl;
                     segments = base.same.segments;
@@ -408,18 +415,20 @@ module _ {E S : Type 0} (object : Object E) (primitive : Primitive E S) (passes 
         cells = r.cells;
         settled = r.settled;
         finals = r.finals;
+        all_settled = r.all_settled;
         counted = counted-more (λ (x : View E S). x.facts.duties) r.segments r.settled views right refl
             (counted-kept (λ (x : View E S). x.facts.duties) r.segments r.settled s.views id v left here refl
             r.counted);
         to_leave = leave-more r.segments views (right ∷ [])
             (leave-kept r.segments s.views id v left here refl r.to_leave);
-        spares = spares-more (slots_for (cell_count passes limit primitive.values)) r.segments views right refl
-            (spares-kept (slots_for (cell_count passes limit primitive.values)) r.segments r.segments s.views id v left
+        spares = spares-more r.slots r.segments views right refl
+            (spares-kept r.slots r.segments r.segments s.views id v left
             here refl (λ y. refl) r.spares);
         idle_words = r.idle_words;
         room = r.room;
         door = r.door;
         shown = r.shown;
+        slots = r.slots;
         segments = r.segments;
         noted = λ j u e. ⊎_elim
             (λ q. set_all (λ i y. IsPrefix y.seen r.log) s.views id left k.sees.seen
@@ -427,11 +436,19 @@ module _ {E S : Type 0} (object : Object E) (primitive : Primitive E S) (passes 
             (λ (q : (j ≡ length views) × (right ≡ u)). subst (λ (y : View E S). IsPrefix y.seen r.log) q.1 k.sees.other)
             (at_end views right u j e);
         each_segment = λ j u e. ⊎_elim
-            (λ q. set_all (λ i y. KnowsSegments r.segments y) s.views id left
-            (record { seen = (r.each_segment id v here).seen; flat = (r.each_segment id v here).flat })
+            (λ q. set_all (λ i y. KnowsSegments r.slots r.segments y) s.views id left
+            (record {
+              seen = (r.each_segment id v here).seen;
+              slots_are = λ on. (r.each_segment id v here).slots_are (omega arith);
+              made = (r.each_segment id v here).made;
+            })
             (λ i y apart at. r.each_segment i y at) j u q)
-            (λ (q : (j ≡ length views) × (right ≡ u)). subst (λ y. KnowsSegments r.segments y) q.1
-            (record { seen = (r.each_segment id v here).seen; flat = (r.each_segment id v here).flat }))
+            (λ (q : (j ≡ length views) × (right ≡ u)). subst (λ y. KnowsSegments r.slots r.segments y) q.1
+            (record {
+              seen = (r.each_segment id v here).seen;
+              slots_are = λ on. (r.each_segment id v here).slots_are (omega arith);
+              made = (r.each_segment id v here).made;
+            }))
             (at_end views right u j e);
         each_view = λ j u e live. ⊎_elim
             (λ q. set_all P s.views id left

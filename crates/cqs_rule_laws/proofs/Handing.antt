@@ -12,7 +12,7 @@ use Rattle.cqs_rule_laws.specs.declared.view.Opening.{Opening}
 use Rattle.cqs_rule_laws.specs.declared.view.View.{View}
 use Rattle.cqs_rule_laws.specs.Client.{IsClient}
 use Rattle.cqs_rule_laws.specs.Hidden.{Hidden}
-use Rattle.cqs_rule_laws.specs.Layout.{client_words, slots_for}
+use Rattle.cqs_rule_laws.specs.Layout.{client_words}
 use Rattle.cqs_rule_laws.specs.Lists.{Has, IsPrefix}
 use Rattle.cqs_rule_laws.specs.Object.{Object, Primitive}
 use Rattle.cqs_rule_laws.specs.Ruled.{Ruled, Knows, IsKept, cell_count}
@@ -199,9 +199,10 @@ module _ {E S : Type 0} (object : Object E) (primitive : Primitive E S) (passes 
       };
       settled = r.settled;
       finals = r.finals;
+      all_settled = r.all_settled;
       counted = counted-kept (λ (x : View E S). x.facts.duties) r.segments r.settled s.views id v w here refl r.counted;
       to_leave = leave-kept r.segments s.views id v w here refl r.to_leave;
-      spares = spares-kept (slots_for (cell_count passes limit primitive.values)) r.segments r.segments s.views id v w
+      spares = spares-kept r.slots r.segments r.segments s.views id v w
           here refl (λ y. refl) r.spares;
       idle_words = record { none = r.idle_words.none };
       room = r.room;
@@ -223,10 +224,15 @@ module _ {E S : Type 0} (object : Object E) (primitive : Primitive E S) (passes 
       unused = r.unused;
       tip = tip-set r.tip;
       shelf = shelf;
+      slots = r.slots;
       segments = r.segments;
       noted = set_all (λ j u. IsPrefix u.seen r.log) s.views id w (r.noted id v here) (λ j u apart at. r.noted j u at);
-      each_segment = set_all (λ j u. KnowsSegments r.segments u) s.views id w
-          (record { seen = (r.each_segment id v here).seen; flat = (r.each_segment id v here).flat })
+      each_segment = set_all (λ j u. KnowsSegments r.slots r.segments u) s.views id w
+          (record {
+            seen = (r.each_segment id v here).seen;
+            slots_are = λ on. (r.each_segment id v here).slots_are (omega arith);
+            made = (r.each_segment id v here).made;
+          })
           (λ j u apart at. r.each_segment j u at);
     },
     refl,

@@ -10,9 +10,11 @@ pub mod Staying
 pub mod Duties
 pub mod ToRetire
 pub mod Settled
+pub mod Over
 pub mod Advance
 pub mod Others
 pub mod CellsStand
+pub mod Outs
 pub mod WordOf
 pub mod Stale
 pub mod Worked
@@ -43,6 +45,7 @@ pub mod Courses
 pub mod Causes
 pub mod SegmentSteps
 pub mod Retiring
+pub mod PassedOver
 pub mod Finals
 pub mod Near
 pub mod StandStill

@@ -19,11 +19,12 @@ use Rattle.cqs_rule_laws.specs.Hidden.{Hidden, stands_at}
 use Rattle.cqs_rule_laws.specs.Layout.{client_words, client_place}
 use Rattle.cqs_rule_laws.specs.Lists as lists
 use Rattle.cqs_rule_laws.specs.Object.{Object, Primitive}
-use Rattle.cqs_rule_laws.specs.Ruled.{Ruled, Stands, IsSince, cell_count}
+use Rattle.cqs_rule_laws.specs.Ruled.{Ruled, Stands, IsSince}
 use Rattle.cqs_rule_laws.specs.Saw.{Saw, IsLive, WasFound}
 use Rattle.cqs_rule_laws.specs.Views.{grown}
 use Rattle.cqs_rule_laws.specs.Manner.{IsSmart}
 use Rattle.cqs_rule_laws.proofs.ToRetire.{leaves-same}
+use Rattle.cqs_rule_laws.proofs.Over.{over-same}
 use Rattle.cqs_rule_laws.proofs.Settled.{finals-on}
 use Rattle.cqs_rule_laws.proofs.CellPlaces.{behind-client, client-inside}
 use Rattle.cqs_rule_laws.proofs.Advance.{Turned}
@@ -113,7 +114,7 @@ module _ {C E S : Type 0} (object : Object E) (primitive : C → Primitive E S) 
       let is : slice_index words i ≡ n = client-at s.words i few in
       let wide : (j : ℕ) → j < 4 → client_place j < length s.words =
       λ j low.
-      let inside = client-inside j (cell_count passes limit (primitive x).values) low in
+      let inside = client-inside j r.slots low in
       let long = r.cells.shows.wide in omega arith in
       let drawn = suspends-low passes limit (primitive x).values c r.room in
       let short : IsShort c.queue = record {
@@ -124,7 +125,7 @@ module _ {C E S : Type 0} (object : Object E) (primitive : C → Primitive E S) 
       let t : Turned object (primitive x) passes limit s r v word (f n) d es after = record {
         crew = crew-else s.words word (f n) (omega arith);
         counters = counters-else c.queue d.queue s.words word (f n) (omega arith) refl refl r.counters;
-        cells = cells-else r.segments c d (cell_count passes limit (primitive x).values) s.words word (f n)
+        cells = cells-else r.segments c d r.slots s.words word (f n)
             (behind-client i few) (λ k. refl) (λ k. refl) r.cells;
         idle_words = idle-else s.words word (f n) (λ j is. is.client i few) r.idle_words;
         room = record {
@@ -179,6 +180,15 @@ module _ {C E S : Type 0} (object : Object E) (primitive : C → Primitive E S) 
               passed = at.behind.passed;
             }) at)
             (λ j high. refl) (λ j high h. h) (λ j e. inl (law.ticket n j e)) (omega arith) r.finals;
+        over = λ j o. r.all_settled j (over-same (IsSmart (primitive x).manner.leaving) c.queue d.queue j refl
+            (λ m w. record {
+              cell = w.cell;
+              there = w.there;
+              owner = w.owner;
+              drawn = w.drawn;
+              uncollected = w.uncollected;
+              installed = w.installed;
+            }) o);
         same_slots = λ y. refl;
         same_spares = refl;
         leaves = leaves-same r.segments _;

@@ -14,7 +14,6 @@ use Rattle.cqs_rule_laws.proofs.Segments.{knows-nothing}
 use Rattle.cqs_rule_laws.proofs.Spares.{spares-set, spares-kept, spares-more}
 use Rattle.cqs_rule_laws.proofs.ToRetire.{leave-kept, leave-more}
 use Rattle.cqs_rule_laws.proofs.Duties.{counted-kept, counted-more}
-use Rattle.cqs_rule_laws.specs.Layout.{slots_for}
 use Rattle.cqs_rule_laws.specs.Lists.{Has, IsPrefix}
 use Rattle.cqs_rule_laws.specs.Views.{all_own, weight, Tip, IsSpent, spent, note_of, with_note, as_before}
 use Rattle.cqs_rule_laws.specs.Ruled.{Ruled, Knows, cell_count}
@@ -78,20 +77,22 @@ module _ {E S : Type 0} (object : Object E) (primitive : Primitive E S) (passes 
         cells = r.cells;
         settled = r.settled;
         finals = r.finals;
+        all_settled = r.all_settled;
         counted = counted-more (λ (x : View E S). x.facts.duties) r.segments r.settled s.views note refl r.counted;
         to_leave = leave-more r.segments s.views (note ∷ []) r.to_leave;
-        spares = spares-more (slots_for (cell_count passes limit primitive.values)) r.segments s.views note refl
+        spares = spares-more r.slots r.segments s.views note refl
             r.spares;
         idle_words = r.idle_words;
         room = r.room;
         door = r.door;
         shown = r.shown;
+        slots = r.slots;
         segments = r.segments;
         noted = λ j u e. old-or j u e (r.noted j u)
             (λ is. subst (λ (y : View E S). IsPrefix y.seen r.log) is (r.noted id v here));
         each_segment = λ j u e. old-or j u e (r.each_segment j u)
-            (λ is. subst (λ (y : View E S). KnowsSegments r.segments y) is
-            (record { seen = knows-nothing r.segments; flat = λ q low. absurd (omega arith) }));
+            (λ is. subst (λ (y : View E S). KnowsSegments r.slots r.segments y) is
+            (record { seen = knows-nothing r.segments; slots_are = λ on. absurd (omega arith); made = omega arith }));
         each_view = λ j u e live. old-or j u e (λ q. r.each_view j u q live)
             (λ is. let w : note.weight ≡ u.weight = ap weight is in absurd (omega arith));
         apart = λ i j x y n e f g h. old-or i x e
@@ -140,18 +141,24 @@ module _ {E S : Type 0} (object : Object E) (primitive : Primitive E S) (passes 
     cells = r.cells;
     settled = r.settled;
     finals = r.finals;
+    all_settled = r.all_settled;
     counted = counted-kept (λ (x : View E S). x.facts.duties) r.segments r.settled s.views id v w here refl r.counted;
     to_leave = leave-kept r.segments s.views id v w here refl r.to_leave;
-    spares = spares-kept (slots_for (cell_count passes limit primitive.values)) r.segments r.segments s.views id v w
+    spares = spares-kept r.slots r.segments r.segments s.views id v w
         here refl (λ y. refl) r.spares;
     idle_words = r.idle_words;
     room = r.room;
     door = r.door;
     shown = r.shown;
+    slots = r.slots;
     segments = r.segments;
     noted = set_all (λ j u. IsPrefix u.seen r.log) s.views id w (r.noted id v here) (λ j u apart at. r.noted j u at);
-    each_segment = set_all (λ j u. KnowsSegments r.segments u) s.views id w
-        (record { seen = (r.each_segment id v here).seen; flat = (r.each_segment id v here).flat })
+    each_segment = set_all (λ j u. KnowsSegments r.slots r.segments u) s.views id w
+        (record {
+          seen = (r.each_segment id v here).seen;
+          slots_are = λ on. (r.each_segment id v here).slots_are (omega arith);
+          made = (r.each_segment id v here).made;
+        })
         (λ j u apart at. r.each_segment j u at);
     each_view = set_all P s.views id w
         (λ live. record {
@@ -243,20 +250,22 @@ module _ {E S : Type 0} (object : Object E) (primitive : Primitive E S) (passes 
     cells = r.cells;
     settled = r.settled;
     finals = r.finals;
+    all_settled = r.all_settled;
     counted = counted-kept (λ (x : View E S). x.facts.duties) r.segments r.settled s.views id u spent here
         (sym (r.spent id u here weightless).dutiless) r.counted;
     to_leave = leave-kept r.segments s.views id u spent here (sym (r.spent id u here weightless).retireless)
         r.to_leave;
-    spares = spares-set (slots_for (cell_count passes limit primitive.values)) r.segments r.segments s.views id u spent
+    spares = spares-set r.slots r.segments r.segments s.views id u spent
         here tt tt (λ y h. absurd h) (λ y i a d is none. refl) r.spares;
     idle_words = r.idle_words;
     room = r.room;
     door = r.door;
     shown = r.shown;
+    slots = r.slots;
     segments = r.segments;
     noted = set_all (λ j x. IsPrefix x.seen r.log) s.views id spent (r.log, refl) (λ j x apart at. r.noted j x at);
-    each_segment = set_all (λ j x. KnowsSegments r.segments x) s.views id spent
-        (record { seen = knows-nothing r.segments; flat = λ q low. absurd (omega arith) })
+    each_segment = set_all (λ j x. KnowsSegments r.slots r.segments x) s.views id spent
+        (record { seen = knows-nothing r.segments; slots_are = λ on. absurd (omega arith); made = omega arith })
         (λ j x apart at. r.each_segment j x at);
     each_view = λ j x at live. r.each_view j x (was j x at live) live;
     apart = apart-set s.views id u spent r.apart here (λ n h. absurd h);

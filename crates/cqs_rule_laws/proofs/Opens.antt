@@ -16,6 +16,7 @@ use Rattle.cqs_rule_laws.specs.declared.view.View.{View}
 use Rattle.cqs_rule_laws.specs.Client.{IsClient}
 use Rattle.cqs_rule_laws.specs.Hidden.{Hidden, state_in, state_at}
 use Rattle.cqs_rule_laws.specs.Object.{Object, Primitive}
+use Rattle.cqs_rule_laws.specs.Manner.{IsSmart}
 use Rattle.cqs_rule_laws.specs.Saw.{IsLive}
 use Rattle.cqs_rule_laws.specs.Lists.{Has, IsDistinct, IsPrefix}
 use Rattle.cqs_words.specs.Cell.{index_in}
@@ -24,14 +25,15 @@ use Rattle.cqs_slots.specs.Layout.{tail_place}
 use Rattle.cqs_slots.specs.Opened.{first_segments, OpensWith}
 use Rattle.cqs_slots.proofs.Counted.{none-in}
 use Rattle.cqs_slots.proofs.Loads.{knows-all}
-use Rattle.cqs_slots.proofs.Opens.{opens-shows, opens-sound, home-there}
-use Rattle.cqs_rule_laws.specs.Layout.{client_words, slots_for, words_for, IsIdle}
+use Rattle.cqs_slots.proofs.Opens.{opens-shows, opens-sound, numbers-length}
+use Rattle.cqs_words.specs.Head.{head_word}
+use Rattle.cqs_rule_laws.specs.Layout.{client_words, words_for, IsIdle}
 use Rattle.cqs_rule_laws.specs.Views.{first_view, all_own, first_facts, first_has}
 use Rattle.cqs_core.specs.declared.cells.CoreCell.{CoreCell}
 use Rattle.cqs_core.specs.QueueCells.{IsInstalled, IsBare}
 use Rattle.cqs_rule_laws.specs.Segments.{KnowsSegments}
 use Rattle.cqs_rule_laws.specs.Spares.{slots_of, AreSpare}
-use Rattle.cqs_rule_laws.specs.Ruled.{Ruled, Knows, IsWaitOf, word_of, word_at, Stands, cell_count}
+use Rattle.cqs_rule_laws.specs.Ruled.{Ruled, Knows, IsWaitOf, word_of, word_at, Stands, cell_count, IsOverAt, IsOver}
 use Rattle.cqs_rule_laws.specs.Opened.{value_cell, first_payload, first_hidden, four, first_in_slot, first_word, first_cell, IsOpening}
 use Rattle.cqs_rule_laws.proofs.CellsStand.{word-number}
 use Rattle.cqs_rule_laws.proofs.Lists.{all_draw}
@@ -77,17 +79,17 @@ cell-empty values k above =
     )
 
 -- the word o of the slot x
-first-slot-at : (slots values x o : ℕ) (words : List ℕ) → o < 48
-    → first_word slots values words (48 * x + (128 + o)) ≡ first_in_slot values x o
-first-slot-at slots values x o words few =
+first-slot-at : (made values x o : ℕ) (words : List ℕ) → o < 48
+    → first_word made values words (48 * x + (128 + o)) ≡ first_in_slot made values x o
+first-slot-at made values x o words few =
     let is : nat_le 128 (48 * x + (128 + o)) ≡ true = le-leb 128 (48 * x + (128 + o)) (omega arith) in
     let slot : (48 * x + (128 + o) - 128) / 48 ≡ x = omega arith in
     let place : (48 * x + (128 + o) - 128) % 48 ≡ o = omega arith in
-    rw is (λ i. first_in_slot values (slot i) (place i))
+    rw is (λ i. first_in_slot made values (slot i) (place i))
 
 -- its cell j
-first-cell-at : (values x j : ℕ) → first_in_slot values x (16 + j) ≡ first_cell values (32 * x + j)
-first-cell-at values x j =
+first-cell-at : (made values x j : ℕ) → first_in_slot made values x (16 + j) ≡ first_cell values (32 * x + j)
+first-cell-at made values x j =
     let a = ne_eqb (16 + j) 0 (λ e. omega arith) in
     let b : nat_lt (16 + j) 16 ≡ false = le-ltb (16 + j) 16 (omega arith) in
     rw (a, b) (ap (first_cell values) (let q : 32 * x + (16 + j - 16) ≡ 32 * x + j = omega arith in q))
@@ -110,7 +112,7 @@ first-idle slots values i words is =
     let d = ne_eqb i 96 (is.client 3 (omega arith)) in
     rw (early, tail, crew, resumes, a, b, c, d) refl
 
-module _ {E S : Type 0} (object : Object E) (primitive : Primitive E S) (passes limit : ℕ) where
+module _ {E S : Type 0} (object : Object E) (primitive : Primitive E S) (passes limit slots made : ℕ) where
   abbrev pub values : ℕ
   values = primitive.values
 
@@ -119,16 +121,17 @@ module _ {E S : Type 0} (object : Object E) (primitive : Primitive E S) (passes 
   cells_of = cell_count passes limit primitive.values
 
   abbrev pub first : View E S
-  first = first_view passes limit cells_of primitive.opening primitive.held
+  first = first_view passes limit cells_of slots made primitive.opening primitive.held
 
   abbrev pub h : Hidden
   h = first_hidden passes primitive.values primitive.held
 
   pub opens : IsClient object primitive → (words : List ℕ) (count : ℕ)
-      → IsOpening (words_for cells_of) (slots_for cells_of) primitive.values primitive.words words
+      → IsOpening (words_for slots) made primitive.values primitive.words words
+      → 0 < made → made ≤ slots → slots ≤ 65536 → cells_of ≤ 32 * made
       → 0 < passes → passes ≤ 32 → 0 < limit → limit ≤ 1048576 → primitive.values ≤ 4096
       → Ruled object primitive passes limit (opening words (replicate count None) first)
-  opens client words count o any few any_limit low_limit few_values = record {
+  opens client words count o any_made fit most room any few any_limit low_limit few_values = record {
     hidden = h;
     log = [];
     handed = [];
@@ -142,12 +145,11 @@ module _ {E S : Type 0} (object : Object E) (primitive : Primitive E S) (passes 
       live_is = refl;
     };
     counters = record { suspends = o.at 16 (omega arith); resumes = o.at 32 (omega arith) };
-    segments = first_segments (slots_for cells_of);
+    slots = slots;
+    segments = first_segments made;
     cells = record {
-      shows = opens-shows (slots_for cells_of) (slots_for cells_of) (word_at h) (omega arith) (omega arith)
-          (omega arith) words slots-open numbered;
-      sound = opens-sound (slots_for cells_of) (slots_for cells_of) (word_at h) (omega arith) (omega arith)
-          (omega arith);
+      shows = opens-shows slots made (word_at h) any_made fit most words slots-open numbered;
+      sound = opens-sound slots made (word_at h) any_made fit most;
       made = record {
         numbered = numbered;
         unmade = λ k high. let t = cell-empty values k (omega arith) in λ i. word_of k (t.0 i) (t.1 i);
@@ -157,17 +159,18 @@ module _ {E S : Type 0} (object : Object E) (primitive : Primitive E S) (passes 
     };
     settled = λ k. false;
     finals = λ k is. absurd (cc);
+    all_settled = λ k o. over-none k (cases_lt k values) o;
     counted = record { counts = λ s. none-in s };
     to_leave = record { leave = λ s all low. absurd (omega arith) };
     spares = record {
-      are = λ j v e. subst (λ (x : View E S). AreSpare (slots_for cells_of) (first_segments (slots_for cells_of))
+      are = λ j v e. subst (λ (x : View E S). AreSpare slots (first_segments made)
           x.facts.spare_slots) (only-one first v j e).1 tt;
       once = λ j v e. subst (λ (x : View E S). IsDistinct (slots_of x.facts.spare_slots)) (only-one first v j e).1 tt;
       apart = λ a b v w y e f p q. (only-one first v a e).0 ∙ sym (only-one first w b f).0;
     };
     idle_words = record {
       none = λ i is. o.at i (let b = is.before in omega arith)
-          ∙ first-idle (slots_for cells_of) values i primitive.words is;
+          ∙ first-idle made values i primitive.words is;
     };
     room = record {
       few_passes = few;
@@ -202,16 +205,25 @@ module _ {E S : Type 0} (object : Object E) (primitive : Primitive E S) (passes 
     tip = record { place = 0; view = first; there = refl; live = omega arith; sees = inl refl };
     shelf = shelf-opens primitive.opens 1 count first refl refl;
     noted = λ j v e. subst (λ (u : View E S). IsPrefix u.seen []) (only-one first v j e).1 ([], refl);
-    each_segment = λ j v e. subst (KnowsSegments (first_segments (slots_for cells_of))) (only-one first v j e).1
+    each_segment = λ j v e. subst (KnowsSegments slots (first_segments made)) (only-one first v j e).1
         (record {
-          seen = knows-all (first_segments (slots_for cells_of));
-          flat = λ s low. home-there (slots_for cells_of) s (omega arith);
+          seen = knows-all (first_segments made);
+          slots_are = λ on. refl;
+          made = made-first;
         });
   }
     where
       none-held : (n : ℕ) → 1 ≤ n → n < passes → slice_get h.has n ≡ Some (first_has 0)
       none-held zero above below = absurd (omega arith)
       none-held (suc n) above below = get-replicate (passes - 1) n (first_has 0) (omega arith)
+
+      -- no cell is over yet: each is empty, or has a value
+      over-none : (k : ℕ) → (k < values) ⊎ (values ≤ k) → IsOver (IsSmart primitive.manner.leaving) h.queue k
+          → false ≡ true
+      over-none k (inl low) o =
+          absurd (subst (IsOverAt (IsSmart primitive.manner.leaving) h.queue k) (cell-value values k low).0 o)
+      over-none k (inr high) o =
+          absurd (subst (IsOverAt (IsSmart primitive.manner.leaving) h.queue k) (cell-empty values k high).0 o)
 
       -- nobody waits yet: where a cell is made, a value stands there
       no-wait : (n k : ℕ) → IsWaitOf h.queue n k → ⊥
@@ -224,22 +236,31 @@ module _ {E S : Type 0} (object : Object E) (primitive : Primitive E S) (passes 
       cell-is k (inl low) = let t = cell-value values k low in t.2 ∙ sym (λ i. word_of k (t.0 i) (t.1 i))
       cell-is k (inr high) = let t = cell-empty values k high in t.2 ∙ sym (λ i. word_of k (t.0 i) (t.1 i))
 
-      at : (x i : ℕ) → x < slots_for cells_of → i < 48
-          → slice_index words (48 * x + (128 + i)) ≡ first_in_slot values x i
+      at : (x i : ℕ) → x < slots → i < 48
+          → slice_index words (48 * x + (128 + i)) ≡ first_in_slot made values x i
       at x i low few = o.at (48 * x + (128 + i)) (omega arith)
-          ∙ first-slot-at (slots_for cells_of) values x i primitive.words few
+          ∙ first-slot-at made values x i primitive.words few
 
-      slots-open : OpensWith (slots_for cells_of) (slots_for cells_of) (word_at h) words
+      made-first : cells_of ≤ 32 * length (first_segments made).homes
+      made-first = let long = numbers-length 0 made in omega arith
+
+      live-head : (x : ℕ) → x < made → first_in_slot made values x 0 ≡ head_word x 2
+      live-head x low = ap (λ b. if b then head_word x 2 else 0) (lt-ltb x made low)
+
+      free-head : (x : ℕ) → made ≤ x → first_in_slot made values x 0 ≡ 0
+      free-head x high = ap (λ b. if b then head_word x 2 else 0) (le-ltb x made high)
+
+      slots-open : OpensWith slots made (word_at h) words
       slots-open = record {
         wide = let long = o.long in omega arith;
         tail = o.at 112 (omega arith);
-        live_head = λ x low. at x 0 low (omega arith);
-        free_head = λ x high low. absurd (omega arith);
-        count = λ x low. at x 8 low (omega arith);
+        live_head = λ x low. at x 0 (omega arith) (omega arith) ∙ live-head x low;
+        free_head = λ x high low. at x 0 low (omega arith) ∙ free-head x high;
+        count = λ x low. at x 8 (omega arith) (omega arith);
         cells = λ x j low less.
             ap (slice_index words) (let q : 48 * x + (144 + j) ≡ 48 * x + (128 + (16 + j)) = omega arith in q)
-            ∙ (at x (16 + j) low (omega arith)
-            ∙ (first-cell-at values x j ∙ cell-is (32 * x + j) (cases_lt (32 * x + j) values)));
+            ∙ (at x (16 + j) (omega arith) (omega arith)
+            ∙ (first-cell-at made values x j ∙ cell-is (32 * x + j) (cases_lt (32 * x + j) values)));
       }
 
       payload-fits : (k : ℕ) → (k < values) ⊎ (values ≤ k) → h.payloads k < 1048576
@@ -308,8 +329,8 @@ module _ {E S : Type 0} (object : Object E) (primitive : Primitive E S) (passes 
           only-zero n has = let e = is-zero n has in omega arith
 
   -- what holds of each live pass's view holds of the first one
-  pub first-live : IsClient object primitive → 0 < passes → passes ≤ 32 → IsLive object first
-  first-live client any few = record {
+  pub first-live : IsClient object primitive → 0 < passes → passes ≤ 32 → cells_of ≤ 32 * made → IsLive object first
+  first-live client any few room = record {
     legal = client.legal_shown h (four primitive.words) [] [] shown;
     unnamed = λ n above. refl;
     own = inl refl;
@@ -322,7 +343,7 @@ module _ {E S : Type 0} (object : Object E) (primitive : Primitive E S) (passes 
       once = λ k has. absurd has;
       few = omega arith;
       payload = omega arith;
-      flat = λ s low. home-there (slots_for cells_of) s (omega arith);
+      made = let long = numbers-length 0 made in omega arith;
     };
   }
     where
@@ -370,32 +391,31 @@ config-bounds c good =
 
 -- the same by what the code computes of a configuration
 pub opens-by : {E S : Type 0} (object : Object E) (primitive : Primitive E S) → IsClient object primitive
-    → (config : Config) (passes values slots long : ℕ) (words items : List ℕ) (count : ℕ)
-    → is_config config ≡ true → passes ≡ config.passes → values ≡ primitive.values
-    → slots ≡ slots_for (config.limit + config.passes + values)
-    → long ≡ words_for (config.limit + config.passes + values) → words ≡ items
-    → IsOpening long slots primitive.values primitive.words items
-    → primitive.values ≤ 4096
+    → (config : Config) (passes slots made : ℕ) (words items : List ℕ) (count : ℕ)
+    → is_config config ≡ true → passes ≡ config.passes → words ≡ items
+    → IsOpening (words_for slots) made primitive.values primitive.words items
+    → primitive.values ≤ 4096 → 0 < made → made ≤ slots → slots ≤ 65536
+    → cell_count config.passes config.limit primitive.values ≤ 32 * made
     → Ruled object primitive passes config.limit
     (opening words (replicate count None)
-    (first_view passes config.limit (cell_count passes config.limit primitive.values) primitive.opening primitive.held))
-opens-by object primitive client config passes values slots long words items count good is_passes is_values is_slots
-    is_long is_words o few =
+    (first_view passes config.limit (cell_count passes config.limit primitive.values) slots made primitive.opening
+    primitive.held))
+opens-by object primitive client config passes slots made words items count good is_passes is_words o few any_made fit
+    most room =
     let b = config-bounds config good in
     let any : 0 < passes = let h = b.some_passes in omega arith in
     let low : passes ≤ 32 = let h = b.few_passes in omega arith in
-    let cells : config.limit + config.passes + values ≡ cell_count passes config.limit primitive.values = omega arith in
-    let whole : IsOpening (words_for (cell_count passes config.limit primitive.values))
-    (slots_for (cell_count passes config.limit primitive.values)) primitive.values primitive.words words =
-    subst (λ (t : ℕ × ℕ × List ℕ). IsOpening t.0 t.1 primitive.values primitive.words t.2)
-    (λ i. ((is_long ∙ ap words_for cells) i, (is_slots ∙ ap slots_for cells) i, sym is_words i)) o in
-    opens object primitive passes config.limit client words count whole any low b.some_limit b.low_limit few
+    let whole : IsOpening (words_for slots) made primitive.values primitive.words words =
+    subst (λ (l : List ℕ). IsOpening (words_for slots) made primitive.values primitive.words l) (sym is_words) o in
+    opens object primitive passes config.limit slots made client words count whole any_made fit most (omega arith) any
+    low b.some_limit b.low_limit few
 
 pub first-live-by : {E S : Type 0} (object : Object E) (primitive : Primitive E S) → IsClient object primitive
-    → (config : Config) → is_config config ≡ true
+    → (config : Config) (slots made : ℕ) → is_config config ≡ true
+    → cell_count config.passes config.limit primitive.values ≤ 32 * made
     → IsLive {S = S} object (first_view config.passes config.limit
-    (cell_count config.passes config.limit primitive.values)
+    (cell_count config.passes config.limit primitive.values) slots made
     primitive.opening primitive.held)
-first-live-by object primitive client config good =
+first-live-by object primitive client config slots made good room =
     let b = config-bounds config good in
-    first-live object primitive config.passes config.limit client b.some_passes b.few_passes
+    first-live object primitive config.passes config.limit slots made client b.some_passes b.few_passes room

@@ -17,22 +17,18 @@ use Rattle.cqs_slots.proofs.Loads as loads
 use Rattle.cqs_slots.proofs.Marks.{retired as left-slot}
 use Rattle.cqs_slots.proofs.Turns.{is-live}
 use Rattle.cqs_rule_laws.specs.declared.view.View.{View}
-use Rattle.cqs_rule_laws.specs.Layout.{slots_for}
 use Rattle.cqs_rule_laws.specs.Lists.{Has, without}
 use Rattle.cqs_rule_laws.specs.Object.{Object, Primitive}
-use Rattle.cqs_rule_laws.specs.Ruled.{cell_count, word_at}
+use Rattle.cqs_rule_laws.specs.Ruled.{word_at}
 use Rattle.cqs_rule_laws.specs.SegmentSteps.{CountLoaded, LastKept, Retired}
 use Rattle.cqs_rule_laws.specs.Settling.{duties_in}
 use Rattle.cqs_rule_laws.proofs.Lists.{has_right}
-use Rattle.cqs_rule_laws.proofs.SegmentSteps.{R, by-exchange, keep-turn, retire-look, retired, slots}
+use Rattle.cqs_rule_laws.proofs.SegmentSteps.{R, by-exchange, keep-turn, retire-look, retired}
 use Rattle.cqs_rule_laws.proofs.ToRetire.{else-fewer, else-none, else-still, else-where, leaves-same, leaves-without}
 
 module _ {E S : Type 0} (object : Object E) (primitive : Primitive E S) (passes limit : ℕ) where
   abbrev Rule : State (Option S) (View E S) → Type 0
   Rule = R object primitive passes limit
-
-  abbrev many_slots : ℕ
-  many_slots = slots object primitive passes limit
 
   -- the tail is loaded, and the pass isn't to retire the last segment any more
   pub keeps-last : (many id : ℕ) (me : Me (Option S) (View E S)) → me.0.weight ≡ 1
@@ -45,8 +41,8 @@ module _ {E S : Type 0} (object : Object E) (primitive : Primitive E S) (passes 
       let look = retire-look object primitive passes limit s r id tail_place me [] retires here one (omega arith)
       (leaves-without t t v.facts.to_retire t.tail refl refl (λ low. absurd (omega arith))) in
       let w = retired v t v.facts.spare_slots [] retires in
-      let cells = (r.each_view id v here (omega arith)).cells_are in
-      let found = loads.tail-found many_slots t (word_at r.hidden) s.words r.cells.shows r.cells.sound w.segments refl
+      let same_slots = (r.each_segment id v here).slots_are (omega arith) in
+      let found = loads.tail-found r.slots t (word_at r.hidden) s.words r.cells.shows r.cells.sound w.segments refl
       refl in (
         w,
         keeps,
@@ -61,10 +57,10 @@ module _ {E S : Type 0} (object : Object E) (primitive : Primitive E S) (passes 
               home = subst (λ z. IsHome w.segments.homes z found.0.slot) found.1 found.0.home;
               last = subst (λ z. length w.segments.homes ≡ z + 1) found.1 found.0.last;
               stands = λ h. found.0.stands (subst (λ z. Has z w.segments.outs) (sym found.1) h);
-              low = subst (λ z. found.0.slot < slots_for z) (sym cells) found.0.low;
+              low = subst (λ z. found.0.slot < z) (sym same_slots) found.0.low;
               id_fits = let fits = found.0.id_fits in omega arith;
               slot_fits = found.0.slot_fits;
-              inside = λ y z at. subst (λ m. z < slots_for m) (sym cells) (found.0.inside y z at);
+              inside = λ y z at. subst (λ m. z < m) (sym same_slots) (found.0.inside y z at);
             };
             went = look.1;
           },
@@ -74,7 +70,7 @@ module _ {E S : Type 0} (object : Object E) (primitive : Primitive E S) (passes 
 
   -- A number of settled cells is loaded. Where it is less than 32, no segment that stood there is to be retired.
   pub loads-count : (many id : ℕ) (me : Me (Option S) (View E S)) (x : ℕ) → me.0.weight ≡ 1
-      → x < slots_for me.0.cells
+      → x < me.0.slots
       → Allows Rule many id me (count_place x) (λ n. n) (λ n me'. CountLoaded x me.0 n me'.0 × (me'.1 ≡ me.1))
   loads-count many id me x one below s r homes here small = ⊎_elim
       (λ (few : n < 32).
@@ -132,8 +128,8 @@ module _ {E S : Type 0} (object : Object E) (primitive : Primitive E S) (passes 
       n = slice_index s.words (count_place x)
 
       found : CountFound x n v.segments (all_seen t)
-      found = loads.count-told many_slots t (word_at r.hidden) s.words r.cells.shows r.cells.sound v.segments x
-          (subst (λ z. x < slots_for z) (r.each_view id me.0 here (omega arith)).cells_are below)
+      found = loads.count-told r.slots t (word_at r.hidden) s.words r.cells.shows r.cells.sound v.segments x
+          (subst (λ z. x < z) ((r.each_segment id me.0 here).slots_are (omega arith)) below)
           (r.each_segment id me.0 here).seen
           (λ q. most-counted t r.settled (duties_in (λ (y : View E S). y.facts.duties) s.views) q r.counted)
 
@@ -153,7 +149,7 @@ module _ {E S : Type 0} (object : Object E) (primitive : Primitive E S) (passes 
       let made = r.cells.sound.made in
       let new = keep-turn object primitive passes limit s r id (head_place x) (head_word q 0) x me u ((x, n) ∷ [])
       (without q me.0.facts.to_retire) here one (omega arith)
-      (left-slot many_slots t (word_at r.hidden) s.words r.cells.shows r.cells.sound x q at (omega arith)
+      (left-slot r.slots t (word_at r.hidden) s.words r.cells.shows r.cells.sound x q at (omega arith)
       (has_prefix q me.0.segments.full t.full known.full full) e) r.cells.made (λ _. refl)
       (leaves-without t u me.0.facts.to_retire q refl refl (λ low. has_right q t.outs (q ∷ []) (inl refl)))
       (λ j a d is. no-spare j a d (sym was ∙ is)) in (
@@ -166,7 +162,7 @@ module _ {E S : Type 0} (object : Object E) (primitive : Primitive E S) (passes 
         },
       ))
       (λ a.
-      let out = (loads.head-found many_slots t (word_at r.hidden) s.words r.cells.shows r.cells.sound me.0.segments x
+      let out = (loads.head-found r.slots t (word_at r.hidden) s.words r.cells.shows r.cells.sound me.0.segments x
       below known).gone q home early a in
       let look = retire-look object primitive passes limit s r id (head_place x) me ((x, n) ∷ [])
       (without q me.0.facts.to_retire) here one (omega arith)
@@ -192,7 +188,7 @@ module _ {E S : Type 0} (object : Object E) (primitive : Primitive E S) (passes 
       at : IsHome r.segments.homes q x
       at = home-prefix me.0.segments.homes r.segments.homes q x (r.each_segment id me.0 here).seen.homes home
 
-      below : x < slots_for (cell_count passes limit primitive.values)
+      below : x < r.slots
       below = r.cells.sound.inside q x (home-prefix me.0.segments.homes r.segments.homes q x
           (r.each_segment id me.0 here).seen.homes home)
 

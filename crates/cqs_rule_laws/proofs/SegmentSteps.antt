@@ -26,8 +26,8 @@ use Rattle.cqs_slots.proofs.Counts.{few-counted, count-found, counted-shows, cou
 use Rattle.cqs_slots.proofs.Extends.{extended, tail-at}
 use Rattle.cqs_rule_laws.specs.declared.view.Spare.{Spare}
 use Rattle.cqs_rule_laws.specs.declared.view.View.{View}
+use Rattle.cqs_rule_laws.specs.Client.{IsClient}
 use Rattle.cqs_rule_laws.specs.Hidden.{Hidden}
-use Rattle.cqs_rule_laws.specs.Layout.{slots_for}
 use Rattle.cqs_rule_laws.specs.Lists.{Has, IsDistinct, IsPrefix}
 use Rattle.cqs_rule_laws.specs.Object.{Object, Primitive}
 use Rattle.cqs_rule_laws.specs.Ruled.{Ruled, Knows as KnowsView, Stands, cell_count, word_at}
@@ -40,6 +40,8 @@ use Rattle.cqs_rule_laws.specs.Settling.{times, duties_in}
 use Rattle.cqs_rule_laws.proofs.ToRetire.{Leaves, leaves-same, leaves-turned, leave-set, too, too-has}
 use Rattle.cqs_rule_laws.proofs.Duties.{counted-set, times-append, times-one, times-none}
 use Rattle.cqs_rule_laws.proofs.Lists.{set_there, one_there, set_all, total_set, one_of, has_append, has_left, has_right}
+use Rattle.cqs_rule_laws.proofs.Outs.{own-stands}
+use Rattle.cqs_rule_laws.proofs.Segments.{knows-later, made-later}
 use Rattle.cqs_rule_laws.proofs.Shelves.{keeps-all, shelf-set}
 use Rattle.cqs_rule_laws.proofs.Spares.{slots-append, are-append, are-else, are-last, is-spare, spares-set, spares-kept, distinct-append, distinct-last, distinct-left}
 use Rattle.cqs_rule_laws.proofs.Words.{crew-else, counters-else, idle-else, client-above}
@@ -63,20 +65,17 @@ module _ {E S : Type 0} (object : Object E) (primitive : Primitive E S) (passes 
   abbrev pub R : State (Option S) (View E S) → Type 0
   R = Ruled object primitive passes limit
 
-  abbrev pub slots : ℕ
-  slots = slots_for (cell_count passes limit primitive.values)
-
   -- what such a step has to show: the word i becomes z, and the segments u
   pub record Resegments (s : State (Option S) (View E S)) (r : R s) (id i z : ℕ) (v : View E S) (u : Segments)
       (spares : List Spare) (heads : List (ℕ × ℕ)) (duties retires : List ℕ) : Type 0 where
     pub behind : 112 ≤ i
-    pub shows : Shows slots u (word_at r.hidden) (slice_set s.words i z)
-    pub sound : AreSound slots u
+    pub shows : Shows r.slots u (word_at r.hidden) (slice_set s.words i z)
+    pub sound : AreSound r.slots u
     pub later : IsLater r.segments u
     pub made : AreCells (word_at r.hidden) u.tail
     pub counts : (q : ℕ) → times q v.facts.duties + r.segments.counted q ≡ times q duties + u.counted q
     pub leaves : Leaves r.segments u v.facts.to_retire retires
-    pub hold : SparesHold slots u (set s.views id (left v u spares heads duties retires))
+    pub hold : SparesHold r.slots u (set s.views id (left v u spares heads duties retires))
 
   -- what it tells
   pub went-so : (s : State (Option S) (View E S)) (r : R s) (id : ℕ) (v : View E S) (u : Segments)
@@ -122,6 +121,7 @@ module _ {E S : Type 0} (object : Object E) (primitive : Primitive E S) (passes 
           live_is = let total = total_set weight s.views id v w here in let l = r.crew.live_is in omega arith;
         };
         counters = counters-else r.hidden.queue r.hidden.queue s.words i z (omega arith) refl refl r.counters;
+        slots = r.slots;
         segments = u;
         cells = record {
           shows = t.shows;
@@ -132,6 +132,7 @@ module _ {E S : Type 0} (object : Object E) (primitive : Primitive E S) (passes 
         };
         settled = r.settled;
         finals = r.finals;
+        all_settled = r.all_settled;
         counted = counted-set (λ (x : View E S). x.facts.duties) r.segments u r.settled r.settled s.views id v w here
             (λ q. let e = t.counts q in omega arith) r.counted;
         to_leave = leave-set r.segments u s.views id v w here t.later.outs t.leaves r.to_leave;
@@ -178,16 +179,14 @@ module _ {E S : Type 0} (object : Object E) (primitive : Primitive E S) (passes 
             r.shelf;
         noted = set_all (λ j x. IsPrefix x.seen r.log) s.views id w (r.noted id v here)
             (λ j x apart at. r.noted j x at);
-        each_segment = set_all (λ j x. KnowsSegments u x) s.views id w
+        each_segment = set_all (λ j x. KnowsSegments r.slots u x) s.views id w
             (let known = r.each_segment id v here in record {
               seen = loads.knows-all u;
-              flat = λ q low. home-prefix v.segments.homes u.homes q q
-                  (loads.knows-later r.segments u v.segments t.later known.seen).homes (known.flat q low);
+              slots_are = known.slots_are;
+              made = made-later v.cells v.segments.homes u.homes
+                  (loads.knows-later r.segments u v.segments t.later known.seen).homes known.made;
             })
-            (λ j x apart there. let known = r.each_segment j x there in record {
-              seen = loads.knows-later r.segments u x.segments t.later known.seen;
-              flat = known.flat;
-            });
+            (λ j x apart there. knows-later r.slots r.segments u x t.later (r.each_segment j x there));
       }
     where
       w : View E S
@@ -220,9 +219,9 @@ module _ {E S : Type 0} (object : Object E) (primitive : Primitive E S) (passes 
   pub segment-turn : (s : State (Option S) (View E S)) (r : R s) (id i z x : ℕ) (me : Me (Option S) (View E S))
       (u : Segments) (spares : List Spare) (heads : List (ℕ × ℕ)) (retires : List ℕ)
       → get_elem? s.views id ≡ some me.0 → me.0.weight ≡ 1 → 112 ≤ i
-      → Becomes slots x r.segments u (word_at r.hidden) (slice_set s.words i z)
+      → Becomes r.slots x r.segments u (word_at r.hidden) (slice_set s.words i z)
       → AreCells (word_at r.hidden) u.tail → ((q : ℕ) → u.counted q ≡ r.segments.counted q)
-      → Leaves r.segments u me.0.facts.to_retire retires → AreSpare slots u spares → IsDistinct (slots_of spares)
+      → Leaves r.segments u me.0.facts.to_retire retires → AreSpare r.slots u spares → IsDistinct (slots_of spares)
       → ((y : ℕ) → Has y (slots_of spares) → Has y (slots_of me.0.facts.spare_slots)
       ⊎ ((i a d : ℕ) → r.segments.slots y ≡ spare i a d → ⊥))
       → ((j a d : ℕ) → r.segments.slots x ≡ spare j a d → Has x (slots_of me.0.facts.spare_slots))
@@ -237,7 +236,7 @@ module _ {E S : Type 0} (object : Object E) (primitive : Primitive E S) (passes 
       made = made;
       counts = λ q. let e = counts q in omega arith;
       leaves = leaves;
-      hold = spares-set slots r.segments u s.views id me.0 (retired me.0 u spares heads retires) here mine distinct
+      hold = spares-set r.slots r.segments u s.views id me.0 (retired me.0 u spares heads retires) here mine distinct
           claims
           (λ y j a d is none. b.others y (λ (e : y ≡ x). none (subst (λ m. Has m (slots_of me.0.facts.spare_slots))
           (sym e) (own j a d (ap r.segments.slots (sym e) ∙ is))))) r.spares;
@@ -258,13 +257,13 @@ module _ {E S : Type 0} (object : Object E) (primitive : Primitive E S) (passes 
         resegment s r id i (slice_index s.words i) me.1 me.0 r.segments me.0.facts.spare_slots heads me.0.facts.duties
             retires here one (record {
               behind = behind;
-              shows = subst (Shows slots r.segments (word_at r.hidden)) (sym same) r.cells.shows;
+              shows = subst (Shows r.slots r.segments (word_at r.hidden)) (sym same) r.cells.shows;
               sound = r.cells.sound;
               later = loads.later-same r.segments;
               made = r.cells.made;
               counts = λ q. refl;
               leaves = leaves;
-              hold = spares-set slots r.segments r.segments s.views id me.0
+              hold = spares-set r.slots r.segments r.segments s.views id me.0
                   (retired me.0 r.segments me.0.facts.spare_slots heads retires) here (r.spares.are id me.0 here)
                   (r.spares.once id me.0 here) (λ y h. inl h) (λ y j a d is none. refl) r.spares;
             }),
@@ -303,21 +302,23 @@ module _ {E S : Type 0} (object : Object E) (primitive : Primitive E S) (passes 
       (let t = missed a in (t.0, keeps, tt, t.1, (t.2, refl))))
 
   -- a load of the tail
-  pub loads-tail : (many id : ℕ) (me : Me (Option S) (View E S)) → me.0.weight ≡ 1
+  pub loads-tail : IsClient object primitive → (many id : ℕ) (me : Me (Option S) (View E S)) → me.0.weight ≡ 1
       → Allows R many id me tail_place (λ n. n) (λ n me'. TailLoaded me.0 n me'.0 × (me'.1 ≡ me.1))
-  loads-tail many id me one s r homes here small =
+  loads-tail client many id me one s r homes here small =
       let t = segment-look s r id tail_place me [] here one (omega arith) in
       let w = went me.0 r.segments me.0.facts.spare_slots [] in
-      let cells = (r.each_view id me.0 here (omega arith)).cells_are in (
+      let same_slots = (r.each_segment id me.0 here).slots_are (omega arith) in (
         w,
         keeps,
         tt,
         t.0,
         (
           record {
-            found = subst (λ z. TailFound (slots_for z) (slice_index s.words tail_place) w.segments) (sym cells)
-                (loads.tail-found slots r.segments (word_at r.hidden) s.words r.cells.shows r.cells.sound w.segments
+            found = subst (λ z. TailFound z (slice_index s.words tail_place) w.segments) (sym same_slots)
+                (loads.tail-found r.slots r.segments (word_at r.hidden) s.words r.cells.shows r.cells.sound w.segments
                 refl refl).0;
+            stands = λ k own out. own-stands object primitive passes limit client s r id me.0 k here (omega arith) own
+                out;
             went = t.1;
           },
           refl,
@@ -325,21 +326,24 @@ module _ {E S : Type 0} (object : Object E) (primitive : Primitive E S) (passes 
       )
 
   -- a load of a head
-  pub loads-head : (many id : ℕ) (me : Me (Option S) (View E S)) (x : ℕ) → me.0.weight ≡ 1 → x < slots_for me.0.cells
+  pub loads-head : IsClient object primitive → (many id : ℕ) (me : Me (Option S) (View E S)) (x : ℕ)
+      → me.0.weight ≡ 1 → x < me.0.slots
       → Allows R many id me (head_place x) (λ n. n) (λ n me'. HeadLoaded x me.0 n me'.0 × (me'.1 ≡ me.1))
-  loads-head many id me x one below s r homes here small =
+  loads-head client many id me x one below s r homes here small =
       let n = slice_index s.words (head_place x) in
       let t = segment-look s r id (head_place x) me ((x, n) ∷ []) here one (omega arith) in
       let w = went me.0 r.segments me.0.facts.spare_slots ((x, n) ∷ []) in
-      let cells = (r.each_view id me.0 here (omega arith)).cells_are in (
+      let same_slots = (r.each_segment id me.0 here).slots_are (omega arith) in (
         w,
         keeps,
         tt,
         t.0,
         (
           record {
-            found = loads.head-found slots r.segments (word_at r.hidden) s.words r.cells.shows r.cells.sound
-                me.0.segments x (subst (λ z. x < slots_for z) cells below) (r.each_segment id me.0 here).seen;
+            found = loads.head-found r.slots r.segments (word_at r.hidden) s.words r.cells.shows r.cells.sound
+                me.0.segments x (subst (λ z. x < z) same_slots below) (r.each_segment id me.0 here).seen;
+            stands = λ k own out. own-stands object primitive passes limit client s r id me.0 k here (omega arith) own
+                out;
             went = t.1;
           },
           refl,
@@ -347,24 +351,24 @@ module _ {E S : Type 0} (object : Object E) (primitive : Primitive E S) (passes 
       )
 
   -- a free slot is claimed, where its head still says so
-  pub claims : (many id : ℕ) (me : Me (Option S) (View E S)) (x i : ℕ) → me.0.weight ≡ 1 → x < slots_for me.0.cells
+  pub claims : (many id : ℕ) (me : Me (Option S) (View E S)) (x i : ℕ) → me.0.weight ≡ 1 → x < me.0.slots
       → Allows R many id me (head_place x) (λ n. either (eqb n (head_word i 0)) (head_word i 1) n)
       (λ n me'. Claimed x (head_word i 0) me.0 n me'.0 × (me'.1 ≡ me.1))
   claims many id me x i one below s r homes here small =
       by-exchange s id me (head_place x) n (head_word i 0) (head_word i 1)
       (λ w. Claimed x (head_word i 0) me.0 n w)
       (λ e.
-      let was : t.slots x ≡ free i = claimed-is slots t (word_at c) s.words r.cells.shows r.cells.sound x low i e in
+      let was : t.slots x ≡ free i = claimed-is r.slots t (word_at c) s.words r.cells.shows r.cells.sound x low i e in
       let u = with_slot t x (spare i 0 0) t.outs t.lit in
-      let b = claimed slots t (word_at c) s.words r.cells.shows r.cells.sound x low i e in
+      let b = claimed r.slots t (word_at c) s.words r.cells.shows r.cells.sound x low i e in
       let fresh-slot : (j a d : ℕ) → t.slots x ≡ spare j a d → ⊥ = λ j a d q. not-spare i j a d (sym was ∙ q) in
       let absent : Has x (slots_of l) → ⊥ = λ h.
-      let q = is-spare slots t l x h (r.spares.are id v here) in fresh-slot q.0 q.1 q.2 q.3 in
+      let q = is-spare r.slots t l x h (r.spares.are id v here) in fresh-slot q.0 q.1 q.2 q.3 in
       let new = segment-turn s r id (head_place x) (head_word i 1) x me u (l ++ claimed_slot x ∷ []) ((x, n) ∷ [])
       v.facts.to_retire here one (omega arith) b r.cells.made (λ q. refl)
       (leaves-turned t u v.facts.to_retire refl refl)
-      (are-append slots u l (claimed_slot x ∷ [])
-      (are-else slots t u l (λ y h. b.others y (λ e'. absent (subst (λ m. Has m (slots_of l)) e' h)))
+      (are-append r.slots u l (claimed_slot x ∷ [])
+      (are-else r.slots t u l (λ y h. b.others y (λ e'. absent (subst (λ m. Has m (slots_of l)) e' h)))
       (r.spares.are id v here)) (
         record {
           low = low;
@@ -404,11 +408,11 @@ module _ {E S : Type 0} (object : Object E) (primitive : Primitive E S) (passes 
       n : ℕ
       n = slice_index s.words (head_place x)
 
-      low : x < slots_for (cell_count passes limit primitive.values)
-      low = subst (λ z. x < slots_for z) (r.each_view id me.0 here (omega arith)).cells_are below
+      low : x < r.slots
+      low = subst (λ z. x < z) ((r.each_segment id me.0 here).slots_are (omega arith)) below
 
       head : HeadFound x n v.segments (all_seen t)
-      head = loads.head-found slots t (word_at c) s.words r.cells.shows r.cells.sound v.segments x low
+      head = loads.head-found r.slots t (word_at c) s.words r.cells.shows r.cells.sound v.segments x low
           (r.each_segment id me.0 here).seen
 
       not-spare : (k j a d : ℕ) → free k ≡ spare j a d → ⊥
@@ -418,7 +422,7 @@ module _ {E S : Type 0} (object : Object E) (primitive : Primitive E S) (passes 
   pub keep-turn : (s : State (Option S) (View E S)) (r : R s) (id i z x : ℕ) (me : Me (Option S) (View E S))
       (u : Segments) (heads : List (ℕ × ℕ)) (retires : List ℕ)
       → get_elem? s.views id ≡ some me.0 → me.0.weight ≡ 1 → 112 ≤ i
-      → Becomes slots x r.segments u (word_at r.hidden) (slice_set s.words i z)
+      → Becomes r.slots x r.segments u (word_at r.hidden) (slice_set s.words i z)
       → AreCells (word_at r.hidden) u.tail → ((q : ℕ) → u.counted q ≡ r.segments.counted q)
       → Leaves r.segments u me.0.facts.to_retire retires
       → ((j a d : ℕ) → r.segments.slots x ≡ spare j a d → ⊥)
@@ -429,19 +433,19 @@ module _ {E S : Type 0} (object : Object E) (primitive : Primitive E S) (passes 
       let l = me.0.facts.spare_slots in
       let old = r.spares.are id me.0 here in
       let absent : Has x (slots_of l) → ⊥ = λ h.
-      let q = is-spare slots r.segments l x h old in no-spare q.0 q.1 q.2 q.3 in
+      let q = is-spare r.slots r.segments l x h old in no-spare q.0 q.1 q.2 q.3 in
       segment-turn s r id i z x me u l heads retires here one behind b made counts leaves
-      (are-else slots r.segments u l
+      (are-else r.slots r.segments u l
       (λ y h. b.others y (λ (e : y ≡ x). absent (subst (λ m. Has m (slots_of l)) e h))) old)
       (r.spares.once id me.0 here) (λ y h. inl h) (λ j a d is. absurd (no-spare j a d is))
 
   -- the pass's last spare, as the rule has it
   last-spare : (s : State (Option S) (View E S)) (r : R s) (id : ℕ) (v : View E S) (before : List Spare) (x : Spare)
       → get_elem? s.views id ≡ some v → v.facts.spare_slots ≡ before ++ x ∷ []
-      → AreSpare slots r.segments before × IsSpare slots r.segments x × (Has x.slot (slots_of before) → ⊥)
+      → AreSpare r.slots r.segments before × IsSpare r.slots r.segments x × (Has x.slot (slots_of before) → ⊥)
   last-spare s r id v before x here is =
-      let old = subst (AreSpare slots r.segments) is (r.spares.are id v here) in
-      let parts = are-last slots r.segments before x old in (
+      let old = subst (AreSpare r.slots r.segments) is (r.spares.are id v here) in
+      let parts = are-last r.slots r.segments before x old in (
         parts.0,
         parts.1,
         distinct-last before x (subst (λ l. IsDistinct (slots_of l)) is (r.spares.once id v here)),
@@ -452,10 +456,10 @@ module _ {E S : Type 0} (object : Object E) (primitive : Primitive E S) (passes 
       (u : Segments) (before : List Spare) (heads : List (ℕ × ℕ))
       → get_elem? s.views id ≡ some me.0 → me.0.weight ≡ 1 → 112 ≤ i
       → me.0.facts.spare_slots ≡ before ++ reset_slot x a d ∷ []
-      → Becomes slots x r.segments u (word_at r.hidden) (slice_set s.words i z)
+      → Becomes r.slots x r.segments u (word_at r.hidden) (slice_set s.words i z)
       → AreCells (word_at r.hidden) u.tail → ((q : ℕ) → u.counted q ≡ r.segments.counted q)
       → Leaves r.segments u me.0.facts.to_retire me.0.facts.to_retire
-      → IsSpare slots u (reset_slot x e f)
+      → IsSpare r.slots u (reset_slot x e f)
       → R (stepped s i z id me.1 (went me.0 u (before ++ reset_slot x e f ∷ []) heads) keeps)
       × Went (before ++ reset_slot x e f ∷ []) heads me.0 (went me.0 u (before ++ reset_slot x e f ∷ []) heads)
   spare-turn s r id i z x a d e f me u before heads here one behind is b made counts leaves mine =
@@ -465,8 +469,8 @@ module _ {E S : Type 0} (object : Object E) (primitive : Primitive E S) (passes 
       ∙ sym (ap slots_of is ∙ slots-append before (reset_slot x a d ∷ [])) in
       segment-turn s r id i z x me u (before ++ reset_slot x e f ∷ []) heads me.0.facts.to_retire here one behind b made
       counts leaves
-      (are-append slots u before (reset_slot x e f ∷ [])
-      (are-else slots r.segments u before
+      (are-append r.slots u before (reset_slot x e f ∷ [])
+      (are-else r.slots r.segments u before
       (λ y h. b.others y (λ (q : y ≡ x). l.2 (subst (λ m. Has m (slots_of before)) q h))) l.0) (mine, tt))
       (subst IsDistinct (sym same) (r.spares.once id me.0 here))
       (λ y h. inl (subst (Has y) same h))
@@ -478,7 +482,7 @@ module _ {E S : Type 0} (object : Object E) (primitive : Primitive E S) (passes 
       (u : Segments) (before : List Spare) (heads : List (ℕ × ℕ)) (retires : List ℕ)
       → get_elem? s.views id ≡ some me.0 → me.0.weight ≡ 1 → 112 ≤ i
       → me.0.facts.spare_slots ≡ before ++ reset_slot x a d ∷ []
-      → Becomes slots x r.segments u (word_at r.hidden) (slice_set s.words i z)
+      → Becomes r.slots x r.segments u (word_at r.hidden) (slice_set s.words i z)
       → AreCells (word_at r.hidden) u.tail → ((q : ℕ) → u.counted q ≡ r.segments.counted q)
       → Leaves r.segments u me.0.facts.to_retire retires
       → R (stepped s i z id me.1 (retired me.0 u before heads retires) keeps)
@@ -488,7 +492,7 @@ module _ {E S : Type 0} (object : Object E) (primitive : Primitive E S) (passes 
       let all : slots_of me.0.facts.spare_slots ≡ slots_of before ++ x ∷ [] =
       ap slots_of is ∙ slots-append before (reset_slot x a d ∷ []) in
       segment-turn s r id i z x me u before heads retires here one behind b made counts leaves
-      (are-else slots r.segments u before
+      (are-else r.slots r.segments u before
       (λ y h. b.others y (λ (q : y ≡ x). l.2 (subst (λ m. Has m (slots_of before)) q h))) l.0)
       (distinct-left (slots_of before) (x ∷ []) (subst IsDistinct all (r.spares.once id me.0 here)))
       (λ y h. inl (subst (Has y) (sym all) (has_left y (slots_of before) (x ∷ []) h)))
@@ -503,11 +507,11 @@ module _ {E S : Type 0} (object : Object E) (primitive : Primitive E S) (passes 
       let t = r.segments in
       let n = slice_index s.words tail_place in
       let sp = (last-spare s r id v before (reset_slot x a d) here is).1 in
-      let low = spare-low slots t (word_at r.hidden) s.words r.cells.shows r.cells.sound x sp.low sp.id a d sp.is in
+      let low = spare-low r.slots t (word_at r.hidden) s.words r.cells.shows r.cells.sound x sp.low sp.id a d sp.is in
       let u = with_slot t x (spare sp.id t.tail 1) t.outs t.lit in
       let same : slice_set s.words tail_place n ≡ s.words = set-get_or s.words tail_place 0 in
-      let b = subst (Becomes slots x t u (word_at r.hidden)) (sym same)
-      (begun slots t (word_at r.hidden) s.words r.cells.shows r.cells.sound x sp.low sp.id a d t.tail sp.is) in
+      let b = subst (Becomes r.slots x t u (word_at r.hidden)) (sym same)
+      (begun r.slots t (word_at r.hidden) s.words r.cells.shows r.cells.sound x sp.low sp.id a d t.tail sp.is) in
       let new = spare-turn s r id tail_place n x a d t.tail 1 me u before [] here one (omega arith) is b r.cells.made
       (λ q. refl) (leaves-turned t u v.facts.to_retire refl refl) (record {
         low = sp.low;
@@ -516,8 +520,8 @@ module _ {E S : Type 0} (object : Object E) (primitive : Primitive E S) (passes 
         begun = λ _. low;
       }) in
       let w = went v u (before ++ reset_slot x t.tail 1 ∷ []) [] in
-      let cells = (r.each_view id v here (omega arith)).cells_are in
-      let found = loads.tail-found slots t (word_at r.hidden) s.words r.cells.shows r.cells.sound w.segments refl refl
+      let same_slots = (r.each_segment id v here).slots_are (omega arith) in
+      let found = loads.tail-found r.slots t (word_at r.hidden) s.words r.cells.shows r.cells.sound w.segments refl refl
       in (
         w,
         keeps,
@@ -533,10 +537,10 @@ module _ {E S : Type 0} (object : Object E) (primitive : Primitive E S) (passes 
               home = subst (λ z. IsHome w.segments.homes z found.0.slot) found.1 found.0.home;
               last = subst (λ z. length w.segments.homes ≡ z + 1) found.1 found.0.last;
               stands = λ h. found.0.stands (subst (λ z. Has z w.segments.outs) (sym found.1) h);
-              low = subst (λ z. found.0.slot < slots_for z) (sym cells) found.0.low;
+              low = subst (λ z. found.0.slot < z) (sym same_slots) found.0.low;
               id_fits = let fits = found.0.id_fits in omega arith;
               slot_fits = found.0.slot_fits;
-              inside = λ y z at. subst (λ m. z < slots_for m) (sym cells) (found.0.inside y z at);
+              inside = λ y z at. subst (λ m. z < m) (sym same_slots) (found.0.inside y z at);
             };
             went = new.1;
           },
@@ -556,7 +560,7 @@ module _ {E S : Type 0} (object : Object E) (primitive : Primitive E S) (passes 
       let u = with_slot t x (spare sp.id a (j + 2)) t.outs t.lit in
       let new = spare-turn s r id (slot_cell x j) (empty_word (32 * (a + 1) + j)) x a (j + 1) a (j + 2) me u before []
       here one (omega arith) is
-      (cell-reset slots t (word_at r.hidden) s.words r.cells.shows r.cells.sound x sp.low sp.id a j sp.is low few)
+      (cell-reset r.slots t (word_at r.hidden) s.words r.cells.shows r.cells.sound x sp.low sp.id a j sp.is low few)
       r.cells.made (λ q. refl) (leaves-turned t u me.0.facts.to_retire refl refl) (record {
         low = sp.low;
         id = sp.id;
@@ -584,7 +588,7 @@ module _ {E S : Type 0} (object : Object E) (primitive : Primitive E S) (passes 
       let sp = (last-spare s r id me.0 before (reset_slot x a 33) here is).1 in
       let u = with_slot t x (spare sp.id a 34) t.outs t.lit in
       let new = spare-turn s r id (count_place x) 0 x a 33 a 34 me u before [] here one (omega arith) is
-      (count-reset slots t (word_at r.hidden) s.words r.cells.shows r.cells.sound x sp.low sp.id a sp.is)
+      (count-reset r.slots t (word_at r.hidden) s.words r.cells.shows r.cells.sound x sp.low sp.id a sp.is)
       r.cells.made (λ q. refl) (leaves-turned t u me.0.facts.to_retire refl refl) (record {
         low = sp.low;
         id = sp.id;
@@ -601,11 +605,11 @@ module _ {E S : Type 0} (object : Object E) (primitive : Primitive E S) (passes 
   lights many id me x q i one home keeps-id lower s r homes here small =
       by-exchange s id me (head_place x) n (head_word i 1) (head_word q 2) (λ w. Lit q me.0 w)
       (λ e.
-      let was = is-young slots t (word_at r.hidden) s.words r.cells.shows r.cells.sound x q at i lower e in
+      let was = is-young r.slots t (word_at r.hidden) s.words r.cells.shows r.cells.sound x q at i lower e in
       let u = with_slot t x (live q) t.outs (q + 1) in
       let new = keep-turn s r id (head_place x) (head_word q 2) x me u [] me.0.facts.to_retire here one
       (omega arith)
-      (lit slots t (word_at r.hidden) s.words r.cells.shows r.cells.sound x q at i was) r.cells.made (λ _. refl)
+      (lit r.slots t (word_at r.hidden) s.words r.cells.shows r.cells.sound x q at i was) r.cells.made (λ _. refl)
       (leaves-turned t u me.0.facts.to_retire refl refl)
       (λ j a d is. no-spare j a d (sym was ∙ is)) in
       (went me.0 u me.0.facts.spare_slots [], new.0, record { lit = omega arith; went = new.1 }))
@@ -614,7 +618,7 @@ module _ {E S : Type 0} (object : Object E) (primitive : Primitive E S) (passes 
         went me.0 t me.0.facts.spare_slots [],
         look.0,
         record {
-          lit = loads.lit-known slots t (word_at r.hidden) s.words r.cells.shows r.cells.sound x q below at
+          lit = loads.lit-known r.slots t (word_at r.hidden) s.words r.cells.shows r.cells.sound x q below at
               (λ j e. a ((r.cells.shows.each x below).head ∙ (ap slot_head e ∙ ap (λ z. head_word z 1)
               (one-home t.kept q j i ((r.cells.sound.each x below).young q j e).3
               (home-prefix me.0.segments.kept t.kept q i known.kept keeps-id)))));
@@ -634,7 +638,7 @@ module _ {E S : Type 0} (object : Object E) (primitive : Primitive E S) (passes 
       at : IsHome r.segments.homes q x
       at = home-prefix me.0.segments.homes r.segments.homes q x (r.each_segment id me.0 here).seen.homes home
 
-      below : x < slots_for (cell_count passes limit primitive.values)
+      below : x < r.slots
       below = r.cells.sound.inside q x (home-prefix me.0.segments.homes r.segments.homes q x
           (r.each_segment id me.0 here).seen.homes home)
 
@@ -651,7 +655,7 @@ module _ {E S : Type 0} (object : Object E) (primitive : Primitive E S) (passes 
       by-exchange s id me tail_place n (segment_word a slot) (segment_word (a + 1) x)
       (λ w. Extended before x a slot me.0 n w)
       (λ e.
-      let f = tail-at slots t (word_at r.hidden) s.words r.cells.shows r.cells.sound in
+      let f = tail-at r.slots t (word_at r.hidden) s.words r.cells.shows r.cells.sound in
       let few = r.cells.sound.few in
       let mine = r.cells.sound.inside a slot at in
       let theirs = f.3 in
@@ -662,10 +666,10 @@ module _ {E S : Type 0} (object : Object E) (primitive : Primitive E S) (passes 
       let up : t.lit ≡ t.tail + 1 = omega arith in
       let u = with_tail t x sp.id in
       let low : sp.id ≤ t.tail = let b = sp.begun (omega arith) in omega arith in
-      let b : Becomes slots x t u (word_at r.hidden) (slice_set s.words tail_place (segment_word (a + 1) x)) =
-      subst (λ z. Becomes slots x t u (word_at r.hidden) (slice_set s.words tail_place (segment_word (z + 1) x)))
+      let b : Becomes r.slots x t u (word_at r.hidden) (slice_set s.words tail_place (segment_word (a + 1) x)) =
+      subst (λ z. Becomes r.slots x t u (word_at r.hidden) (slice_set s.words tail_place (segment_word (z + 1) x)))
       (sym tail)
-      (extended slots t (word_at r.hidden) s.words r.cells.shows r.cells.sound r.cells.made x sp.id sp.low low
+      (extended r.slots t (word_at r.hidden) s.words r.cells.shows r.cells.sound r.cells.made x sp.id sp.low low
       (sp.is ∙ ap (λ z. spare sp.id z 34) tail) up (omega arith)) in
       let long = r.cells.sound.made in
       let new = spent-turn s r id tail_place (segment_word (a + 1) x) x a 34 me u before []
@@ -697,9 +701,10 @@ module _ {E S : Type 0} (object : Object E) (primitive : Primitive E S) (passes 
           home = λ e. absurd (d e);
           last = λ e. absurd (d e);
           made = λ e. absurd (d e);
-          found = λ _. subst (λ z. TailFound (slots_for z) n w.segments)
-              (sym (r.each_view id me.0 here (omega arith)).cells_are)
-              (loads.tail-found slots t (word_at r.hidden) s.words r.cells.shows r.cells.sound w.segments refl refl).0;
+          found = λ _. subst (λ z. TailFound z n w.segments)
+              (sym ((r.each_segment id me.0 here).slots_are (omega arith)))
+              (loads.tail-found r.slots t (word_at r.hidden) s.words r.cells.shows r.cells.sound w.segments refl
+              refl).0;
           missed = λ _. look.1;
         },
       ))
@@ -716,7 +721,7 @@ module _ {E S : Type 0} (object : Object E) (primitive : Primitive E S) (passes 
       at : IsHome r.segments.homes a slot
       at = home-prefix me.0.segments.homes r.segments.homes a slot (r.each_segment id me.0 here).seen.homes home
 
-      sp : IsSpare slots r.segments (reset_slot x a 34)
+      sp : IsSpare r.slots r.segments (reset_slot x a 34)
       sp = (last-spare s r id me.0 before (reset_slot x a 34) here is).1
 
   -- The pass's last spare is given back: its head is claimed, and one less is free.
@@ -733,7 +738,7 @@ module _ {E S : Type 0} (object : Object E) (primitive : Primitive E S) (passes 
       let u = with_slot t x (free sp.id) t.outs t.lit in
       let new = spent-turn s r id (head_place x) (head_word sp.id 0) x a d me u before []
       me.0.facts.to_retire here one (omega arith) is
-      (given-back slots t (word_at r.hidden) s.words r.cells.shows r.cells.sound x sp.low sp.id a d sp.is)
+      (given-back r.slots t (word_at r.hidden) s.words r.cells.shows r.cells.sound x sp.low sp.id a d sp.is)
       r.cells.made (λ q. refl) (leaves-turned t u me.0.facts.to_retire refl refl) in
       let w = went me.0 u before [] in (
         w,
@@ -760,10 +765,10 @@ module _ {E S : Type 0} (object : Object E) (primitive : Primitive E S) (passes 
       let some = one_of (λ (y : View E S). times q y.facts.duties) s.views id v here in
       let few : t.counted q ≤ 31 =
       few-counted t r.settled (duties_in (λ (y : View E S). y.facts.duties) s.views) q r.counted (omega arith) in
-      let found : n ≡ t.counted q = count-found slots t c s.words r.cells.shows r.cells.sound q x at few in
+      let found : n ≡ t.counted q = count-found r.slots t c s.words r.cells.shows r.cells.sound q x at few in
       let u = with_counted t q in
       let exact : (n + 1) % 2 ^ 64 ≡ t.counted q + 1 = omega arith in
-      let later = counted-later slots t c s.words r.cells.shows r.cells.sound q x at few in
+      let later = counted-later r.slots t c s.words r.cells.shows r.cells.sound q x at few in
       let retires = too (eqb n 31) q v.facts.to_retire in
       let w : View E S = left v u v.facts.spare_slots [] before retires in (
         w,
@@ -773,8 +778,8 @@ module _ {E S : Type 0} (object : Object E) (primitive : Primitive E S) (passes 
             (resegment s r id (count_place x) (t.counted q + 1) me.1 v u v.facts.spare_slots [] before retires
             here one (record {
               behind = omega arith;
-              shows = counted-shows slots t c s.words r.cells.shows r.cells.sound q x at few;
-              sound = counted-sound slots t c s.words r.cells.shows r.cells.sound q x at few;
+              shows = counted-shows r.slots t c s.words r.cells.shows r.cells.sound q x at few;
+              sound = counted-sound r.slots t c s.words r.cells.shows r.cells.sound q x at few;
               later = later;
               made = r.cells.made;
               counts = λ p. dite (ℕ_discrete p q)
@@ -797,14 +802,14 @@ module _ {E S : Type 0} (object : Object E) (primitive : Primitive E S) (passes 
                   (λ (a : p ≢ q).
                   let now : u.counted p ≡ t.counted p = changed_else t.counted q (t.counted q + 1) p a in
                   inr (omega arith, low, λ h. inr (too-has (eqb n 31) q v.facts.to_retire p h)));
-              hold = spares-kept slots t u s.views id v w here refl (λ y. refl) r.spares;
+              hold = spares-kept r.slots t u s.views id v w here refl (λ y. refl) r.spares;
             })),
         (
           record {
             few = omega arith;
             full = λ all. fuller-has t.full (t.counted q) q (omega arith);
             early = λ less h.
-                let all = (counted-sound slots t c s.words r.cells.shows r.cells.sound q x at few).full_is q h in
+                let all = (counted-sound r.slots t c s.words r.cells.shows r.cells.sound q x at few).full_is q h in
                 let now : u.counted q ≡ t.counted q + 1 = changed_here t.counted q (t.counted q + 1) in
                 absurd (omega arith);
             left = λ less. subst (λ b. LeftBy [] v.facts.spare_slots before

@@ -23,7 +23,7 @@ use Rattle.cqs_rule_laws.specs.Ruled.{IsWaitOf, Stands, IsFinal}
 use Rattle.cqs_rule_laws.proofs.Staying.{OthersStay}
 
 -- the row of a step at a cell
-abbrev row_in : StepRow → CellRow
+abbrev pub row_in : StepRow → CellRow
 row_in (at_cell row) = row
 row_in (at_counter row) = record {
   works_at = row.works_at;
@@ -89,10 +89,10 @@ module _ (m : Manner) (q : Queue) (p k : ℕ) (found : CoreCell) where
   owes-ticket e = absurd (cc)
 
   -- and is final then
-  abbrev After : CellRow → Queue
+  abbrev pub After : CellRow → Queue
   After row = row_after (at_cell row) q p k (Some found)
 
-  after-there : (row : CellRow) → IsOpenRow q (at_cell row) p k (Some found)
+  pub after-there : (row : CellRow) → IsOpenRow q (at_cell row) p k (Some found)
       → slice_get (After row).cells k ≡ Some (cell_after row found)
   after-there row o = get-set_here q.cells k found (cell_after row found) o.0.finds
 
@@ -133,7 +133,7 @@ module _ (m : Manner) (q : Queue) (p k : ℕ) (found : CoreCell) where
         none (subst IsUnended is (subst (λ (z : CoreCell). IsUnended z.state)
         (same_Some ticket.cell found (sym ticket.found ∙ there)) ticket.unended))
 
-    holds : (x : CoreState) → slice_get q.cells k ≡ Some found → found.state ≡ x → IsSoundAt q k found x
+    pub holds : (x : CoreState) → slice_get q.cells k ≡ Some found → found.state ≡ x → IsSoundAt q k found x
     holds x there is = subst (IsSoundAt q k found) is (sound.cells.at k found there)
 
     -- the one ticket is this pass's

@@ -14,7 +14,6 @@ use Rattle.cqs_slots.proofs.Lists.{home-prefix}
 use Rattle.cqs_slots.proofs.Stands.{found-is, found-later}
 use Rattle.cqs_rule_laws.specs.declared.view.View.{View}
 use Rattle.cqs_rule_laws.specs.Hidden.{Hidden, state_in, state_at}
-use Rattle.cqs_rule_laws.specs.Layout.{slots_for}
 use Rattle.cqs_rule_laws.specs.Placed.{KnowsPlace, place_at, place_word}
 use Rattle.cqs_rule_laws.specs.Ruled.{CellsShow, word_of, word_at}
 use Rattle.cqs_rule_laws.proofs.CellsStand.{CellAt, cell-at, number-split, place-few, word-number}
@@ -41,9 +40,9 @@ module _ {E S : Type 0} (t : Segments) (c : Hidden) (cells : ℕ) (words : List 
       let is = p.3 in
       let split = number-split k in
       let at : slice_index words word ≡ slice_index words (slot_cell p.0 (k % 32)) = ap (slice_index words) is in (
-        (λ e. at ∙ (found-is (slots_for cells) t (word_at c) words (k / 32) p.0 (k % 32) show.sound show.shows home
+        (λ e. at ∙ (found-is cells t (word_at c) words (k / 32) p.0 (k % 32) show.sound show.shows home
             (place-few k) (ap index_in (sym at) ∙ (e ∙ sym split)) ∙ ap (word_at c) split)),
-        (let later = found-later (slots_for cells) t (word_at c) words (k / 32) p.0 (k % 32) show.sound show.shows home
+        (let later = found-later cells t (word_at c) words (k / 32) p.0 (k % 32) show.sound show.shows home
             (place-few k) in
             let same : index_in (slice_index words word) ≡ index_in (slice_index words (slot_cell p.0 (k % 32))) =
             ap index_in at in omega arith),

@@ -52,7 +52,7 @@ swapped-then {E} {S} k laid items v u w took put shut = record {
 module _ {E S : Type 0} (laid : List (ℕ × Option S)) (v w : View E S) (swap : Swapped laid v w) where
   pub inside-swapped : IsInside v → IsInside w
   inside-swapped i = subst (λ (z : View E S). IsInside z) (sym swap.is)
-      (record { number = i.number; waits = i.waits; once = i.once; few = i.few; payload = i.payload; flat = i.flat })
+      (record { number = i.number; waits = i.waits; once = i.once; few = i.few; payload = i.payload; made = i.made })
 
   pub live-swapped : (object : Object E) → IsLive object v → IsLive object w
   live-swapped object l = subst (λ (z : View E S). IsLive object z) (sym swap.is) (record {
@@ -68,7 +68,7 @@ module _ {E S : Type 0} (laid : List (ℕ × Option S)) (v w : View E S) (swap :
       once = l.inside.once;
       few = l.inside.few;
       payload = l.inside.payload;
-      flat = l.inside.flat;
+      made = l.inside.made;
     };
   })
 
@@ -105,6 +105,7 @@ saw-given {E} {S} object v g w {facts} {es} t same more less = record {
     drawn = t.same.drawn ∙ ap (λ u. u.drawn) same;
     limit = t.same.limit ∙ ap (λ u. u.limit) same;
     cells = t.same.cells ∙ ap (λ u. u.cells) same;
+    slots = t.same.slots ∙ ap (λ u. u.slots) same;
     passes = t.same.passes ∙ ap (λ u. u.passes) same;
     opening = t.same.opening ∙ ap (λ u. u.opening) same;
     segments = subst (λ (u : View E S). SeesMore u.segments w.segments) same t.same.segments;

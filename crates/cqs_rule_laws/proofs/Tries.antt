@@ -2,6 +2,7 @@
 use Rattle.std.proofs.Common.{◌≡◌, ◌≢◌, ℕ, ◌<◌, ◌^◌, Bool, true, false, true≢false, List, [], ◌∷◌, ◌≤◌, sym, refl, ap, ◌∙◌, subst, arith, length, inl, ⊎_elim, nat_lt, lt-ltb, if◌then◌else◌}
 use Rattle.std.proofs.lemmas.Bool.{cases_lt}
 use Rattle.cqs_core.specs.declared.doings.Doing.TheVariants as doing
+use Rattle.cqs_slots.specs.Told.{SeesMore}
 use Rattle.cqs_rule_laws.specs.declared.view.View.{View}
 use Rattle.cqs_rule_laws.specs.declared.view.Opening.{Opening}
 use Rattle.cqs_rule_laws.specs.declared.view.Facts.{Facts}
@@ -44,7 +45,7 @@ module _ {E S : Type 0} where
         once = λ k h. absurd (subst (λ f. Has k f.waits) is h);
         few = subst (λ (f : Facts). length f.waits ≤ w.cells) (sym is) (omega arith);
         payload = subst (λ (f : Facts). f.has.payload < 2 ^ 20) (sym is) (omega arith);
-        flat = i.flat;
+        made = i.made;
       }
 
 module _ {E S : Type 0} (object : Object E) where
@@ -63,7 +64,7 @@ module _ {E S : Type 0} (object : Object E) where
       once = l.inside.once;
       few = l.inside.few;
       payload = l.inside.payload;
-      flat = l.inside.flat;
+      made = l.inside.made;
     };
   }
 
@@ -108,6 +109,7 @@ module _ {E S : Type 0} (object : Object E) where
           drawn = refl;
           limit = s.same.limit;
           cells = s.same.cells;
+          slots = s.same.slots;
           passes = s.same.passes;
           opening = s.same.opening;
           segments = s.same.segments;
@@ -132,6 +134,8 @@ module _ {E S : Type 0} (object : Object E) where
     pub number : x.number ≡ w.number
     pub facts : x.facts ≡ facts_lessened gives w.facts
     pub cells : x.cells ≡ w.cells
+    pub slots : x.slots ≡ w.slots
+    pub segments : SeesMore w.segments x.segments
     pub limit : x.limit ≡ w.limit
     pub passes : x.passes ≡ w.passes
     pub opening : x.opening ≡ w.opening
@@ -148,6 +152,8 @@ module _ {E S : Type 0} (object : Object E) where
         number = s.same.number;
         facts = s.facts_are;
         cells = s.same.cells;
+        slots = s.same.slots;
+        segments = s.same.segments;
         limit = s.same.limit;
         passes = s.same.passes;
         opening = s.same.opening;
@@ -160,6 +166,7 @@ module _ {E S : Type 0} (object : Object E) where
     pub came : CameWith object gives x y
     pub weight : y.weight ≡ 1
     pub cells : y.cells ≡ w.cells
+    pub slots : y.slots ≡ w.slots
     pub limit : y.limit ≡ w.limit
     pub passes : y.passes ≡ w.passes
     pub opening : y.opening ≡ w.opening
@@ -188,6 +195,7 @@ module _ {E S : Type 0} (object : Object E) where
         };
         weight = refl;
         cells = s.same.cells;
+        slots = s.same.slots;
         limit = s.same.limit;
         passes = s.same.passes;
         opening = s.same.opening;

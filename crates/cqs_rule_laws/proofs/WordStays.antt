@@ -14,7 +14,7 @@ use Rattle.cqs_rule_laws.specs.Hidden.{Hidden, now_may_draw}
 use Rattle.cqs_rule_laws.specs.Object.{Object, Primitive}
 use Rattle.cqs_rule_laws.specs.Layout.{client_words}
 use Rattle.cqs_rule_laws.specs.Views.{grown}
-use Rattle.cqs_rule_laws.specs.Ruled.{Ruled, Stands, CountersShow, CellsShow, IdleWords, HasRoom, DoorMayDraw, IsFinal, cell_count}
+use Rattle.cqs_rule_laws.specs.Ruled.{Ruled, Stands, CountersShow, CellsShow, IdleWords, HasRoom, DoorMayDraw, IsFinal, IsOver}
 use Rattle.cqs_rule_laws.specs.Client.{IsClient}
 use Rattle.cqs_rule_laws.specs.Lists.{Has, NamesOnly}
 use Rattle.cqs_rule_laws.specs.Loads as load
@@ -28,6 +28,7 @@ use Rattle.cqs_slots.proofs.Loads.{later-same}
 use Rattle.cqs_rule_laws.proofs.Advance.{Turned}
 use Rattle.cqs_rule_laws.proofs.Staying.{OthersStay}
 use Rattle.cqs_rule_laws.proofs.Drawing.{draws-word}
+use Rattle.cqs_rule_laws.proofs.Over.{over-same}
 use Rattle.cqs_rule_laws.proofs.Shelves.{Keeps, keeps-all}
 use Rattle.cqs_rule_laws.proofs.Others.{others-same, others-counted, door-keeps}
 use Rattle.cqs_rule_laws.proofs.Tells.{steps, Steps}
@@ -38,7 +39,7 @@ module _ {E S : Type 0} (object : Object E) (primitive : Primitive E S) (passes 
   -- no word changes, what is hidden becomes d, and the history grows by these entries
   pub stays : (s : State (Option S) (View E S)) (r : Ruled object primitive passes limit s) (v : View E S) (i : ℕ)
       (d : Hidden) (es : List E) (facts : Facts)
-      → CountersShow d.queue s.words → CellsShow r.segments d (cell_count passes limit primitive.values) s.words
+      → CountersShow d.queue s.words → CellsShow r.segments d r.slots s.words
       → HasRoom passes limit primitive.values d
       → DoorMayDraw d
       → primitive.shows d (client_words s.words) (r.log ++ es) r.handed → OthersStay r.hidden d v.number
@@ -48,14 +49,15 @@ module _ {E S : Type 0} (object : Object E) (primitive : Primitive E S) (passes 
       → facts.spare_slots ≡ v.facts.spare_slots → facts.duties ≡ v.facts.duties
       → facts.to_retire ≡ v.facts.to_retire
       → ((k : ℕ) → r.settled k ≡ true → IsFinal (IsSmart primitive.manner.leaving) d.queue k)
+      → ((k : ℕ) → IsOver (IsSmart primitive.manner.leaving) d.queue k → r.settled k ≡ true)
       → Turned object primitive passes limit s r v i (slice_index s.words i) d es facts
   stays s r v i d es facts counters cells room door shown others self silent owed slots draws spares duties
-      retires finals =
+      retires finals over =
       let same : slice_set s.words i (slice_index s.words i) ≡ s.words = set-get_or s.words i 0 in
       record {
         crew = ap (λ l. slice_index l 0) same;
         counters = subst (CountersShow d.queue) (sym same) counters;
-        cells = subst (CellsShow r.segments d (cell_count passes limit primitive.values)) (sym same) cells;
+        cells = subst (CellsShow r.segments d r.slots) (sym same) cells;
         idle_words = subst IdleWords (sym same) r.idle_words;
         room = room;
         door = door;
@@ -71,6 +73,7 @@ module _ {E S : Type 0} (object : Object E) (primitive : Primitive E S) (passes 
         settles = r.settled;
         counts = λ q. let e = ap (times q) duties in omega arith;
         finals = finals;
+        over = over;
         same_slots = λ y. refl;
         same_spares = spares;
         leaves = λ q all low. inr (all, low, λ h. inr (subst (Has q) (sym retires) h));
@@ -79,7 +82,7 @@ module _ {E S : Type 0} (object : Object E) (primitive : Primitive E S) (passes 
   -- the same with no entry
   pub still : (s : State (Option S) (View E S)) (r : Ruled object primitive passes limit s) (v : View E S) (i : ℕ)
       (d : Hidden) (facts : Facts)
-      → CountersShow d.queue s.words → CellsShow r.segments d (cell_count passes limit primitive.values) s.words
+      → CountersShow d.queue s.words → CellsShow r.segments d r.slots s.words
       → HasRoom passes limit primitive.values d
       → DoorMayDraw d
       → primitive.shows d (client_words s.words) r.log r.handed → OthersStay r.hidden d v.number
@@ -89,12 +92,13 @@ module _ {E S : Type 0} (object : Object E) (primitive : Primitive E S) (passes 
       → facts.spare_slots ≡ v.facts.spare_slots → facts.duties ≡ v.facts.duties
       → facts.to_retire ≡ v.facts.to_retire
       → ((k : ℕ) → r.settled k ≡ true → IsFinal (IsSmart primitive.manner.leaving) d.queue k)
+      → ((k : ℕ) → IsOver (IsSmart primitive.manner.leaving) d.queue k → r.settled k ≡ true)
       → Turned object primitive passes limit s r v i (slice_index s.words i) d [] facts
   still s r v i d facts counters cells room door shown others self owed slots draws spares duties retires
-      finals =
+      finals over =
       stays s r v i d [] facts counters cells room door
       (subst (λ l. primitive.shows d (client_words s.words) l r.handed) (sym (append-nil r.log)) shown) others self
-      (λ n apart. refl) owed slots draws spares duties retires finals
+      (λ n apart. refl) owed slots draws spares duties retires finals over
 
   -- nothing hidden changes, and the pass goes on to these facts
   pub looks-to : (s : State (Option S) (View E S)) (r : Ruled object primitive passes limit s) (id : ℕ)
@@ -111,7 +115,7 @@ module _ {E S : Type 0} (object : Object E) (primitive : Primitive E S) (passes 
       (slice_index s.words i) r.hidden [] facts here one
       (still s r me.0 i r.hidden facts r.counters r.cells r.room r.door r.shown
       (others-same r.hidden me.0.number) self owed slots (ap (λ n. r.hidden.queue.resumes + n) (sym draws)) spares
-      duties retires r.finals)
+      duties retires r.finals r.all_settled)
 
   -- what was found is told by what the client shows
   pub found-so : {C : Type 0} (all : C → Primitive E S) (x : C) → all x ≡ primitive → (s : State (Option S) (View E S))
@@ -159,6 +163,15 @@ module _ {E S : Type 0} (object : Object E) (primitive : Primitive E S) (passes 
         met = i.met;
         reached = i.reached;
       } in
+      let over : (j : ℕ) → IsOver (IsSmart primitive.manner.leaving) d.queue j → r.settled j ≡ true = λ j o.
+      r.all_settled j (over-same (IsSmart primitive.manner.leaving) r.hidden.queue d.queue j refl (λ n w. record {
+        cell = w.cell;
+        there = w.there;
+        owner = w.owner;
+        drawn = w.drawn;
+        uncollected = w.uncollected;
+        installed = w.installed;
+      }) o) in
       let t = steps object primitive passes limit client s r id me 16 n d []
       (facts_counted me.0.limit n f) here one
       (still s r me.0 16 d (facts_counted me.0.limit n f)
@@ -191,7 +204,8 @@ module _ {E S : Type 0} (object : Object E) (primitive : Primitive E S) (passes 
         behind = record { reached = at.behind.reached; passed = at.behind.passed };
       })
       k.payload_fits (keeps-all primitive.opens me.0 (facts_counted me.0.limit n f) refl (λ j o. o))
-      (ap (λ m. r.hidden.queue.resumes + m) (sym (draws-word f.found 16 n (λ e. omega arith)))) refl refl refl final)
+      (ap (λ m. r.hidden.queue.resumes + m) (sym (draws-word f.found 16 n (λ e. omega arith))))
+      refl refl refl final over)
       in (
         grown me.0 (facts_counted me.0.limit n f) (r.log ++ []) r.handed,
         keeps,

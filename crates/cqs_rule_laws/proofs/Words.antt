@@ -7,7 +7,7 @@ use Rattle.cqs_slots.specs.Slots.{Segments}
 use Rattle.cqs_slots.proofs.Stays.{all-stay}
 use Rattle.cqs_words.specs.Cell.{index_in}
 use Rattle.cqs_core.specs.QueueState.{Queue}
-use Rattle.cqs_rule_laws.specs.Layout.{crew_place, resumes_place, client_place, slots_for, client_words, IsIdle}
+use Rattle.cqs_rule_laws.specs.Layout.{crew_place, resumes_place, client_place, client_words, IsIdle}
 use Rattle.cqs_rule_laws.specs.Hidden.{Hidden, state_at}
 use Rattle.cqs_rule_laws.specs.Ruled.{CountersShow, CellsShow, IdleWords, word_of, word_at}
 
@@ -35,7 +35,7 @@ pub cells-same : (t : Segments) (c d : Hidden) (cells : ℕ) (words : List ℕ)
     → ((k : ℕ) → state_at d.queue k ≡ state_at c.queue k) → ((k : ℕ) → d.payloads k ≡ c.payloads k)
     → CellsShow t c cells words → CellsShow t d cells words
 cells-same t c d cells words states payloads show = record {
-  shows = all-stay (slots_for cells) t (word_at c) (word_at d) words words show.sound (omega arith) (λ j behind. refl)
+  shows = all-stay cells t (word_at c) (word_at d) words words show.sound (omega arith) (λ j behind. refl)
       says show.shows;
   sound = show.sound;
   made = record {
@@ -54,7 +54,7 @@ pub cells-else : (t : Segments) (c d : Hidden) (cells : ℕ) (words : List ℕ) 
     → ((k : ℕ) → state_at d.queue k ≡ state_at c.queue k) → ((k : ℕ) → d.payloads k ≡ c.payloads k)
     → CellsShow t c cells words → CellsShow t d cells (slice_set words i x)
 cells-else t c d cells words i x front states payloads show = record {
-  shows = all-stay (slots_for cells) t (word_at c) (word_at d) words (slice_set words i x) show.sound
+  shows = all-stay cells t (word_at c) (word_at d) words (slice_set words i x) show.sound
       (let e = length-set words i x in omega arith)
       (λ j behind. other-word words i j x (λ e. omega arith)) says show.shows;
   sound = show.sound;

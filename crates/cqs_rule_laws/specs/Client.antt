@@ -10,7 +10,7 @@ use Rattle.cqs_rule_laws.specs.declared.view.Has.{Has}
 use Rattle.cqs_rule_laws.specs.Hidden.{Hidden, hidden_after, has_after, now_may_draw, has_both, has_none, hands_over}
 use Rattle.cqs_rule_laws.specs.Lists.{NamesOnly}
 use Rattle.cqs_rule_laws.specs.Lists as lists
-use Rattle.cqs_rule_laws.specs.Manner.{Suits}
+use Rattle.cqs_rule_laws.specs.Manner.{mode_for, Suits}
 use Rattle.cqs_rule_laws.specs.Object.{Object, Primitive}
 use Rattle.cqs_rule_laws.specs.Opened.{first_hidden, four}
 
@@ -86,6 +86,8 @@ module _ {E S : Type 0} (object : Object E) (primitive : Primitive E S) where
         → primitive.shows c words log (handed ++ (k, value) ∷ [])
 
   pub record IsClient : Type 0 where
+    -- its object opens in the mode in which its waits leave
+    pub mode : primitive.opening.mode ≡ mode_for primitive.manner.leaving
     -- its words as they open go with a queue as it opens
     pub begins : (passes : ℕ) → 0 < passes → passes ≤ 32
         → primitive.shows (first_hidden passes primitive.values primitive.held)

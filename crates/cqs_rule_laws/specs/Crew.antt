@@ -97,6 +97,7 @@ module _ {E : Type 0} (object : Object E) where
       pub theirs : (n : ℕ) → Has n own → part object.names n w.seen ≡ part object.names n seen
       pub limit : w.limit ≡ v.limit
       pub cells : w.cells ≡ v.cells
+      pub slots : w.slots ≡ v.slots
       pub passes : w.passes ≡ v.passes
       pub opening : w.opening ≡ v.opening
       pub segments : SeesMore v.segments w.segments

@@ -1,7 +1,6 @@
 -- The numbers of a pass are those of cells, each wait stands there once, and a payload fits a cell.
--- Each segment stands in the slot of its number.
+-- Each cell has a segment.
 use Rattle.std.specs.Prelude.{◌≡◌, ℕ, ◌+◌, ◌*◌, ◌<◌, ◌≤◌, ◌^◌, length}
-use Rattle.cqs_slots.specs.Slots.{IsHome}
 use Rattle.cqs_rule_laws.specs.declared.view.View.{View}
 use Rattle.cqs_rule_laws.specs.Lists.{Has, without}
 use Rattle.cqs_rule_laws.specs.Ruled.{number_at}
@@ -14,4 +13,4 @@ pub record IsInside {E S : Type 0} (v : View E S) : Type 0 where
       → length (without k v.facts.waits) + 1 ≡ length v.facts.waits
   pub few : length v.facts.waits ≤ v.cells
   pub payload : v.facts.has.payload < 2 ^ 20
-  pub flat : (s : ℕ) → 32 * s < v.cells → IsHome v.segments.homes s s
+  pub made : v.cells ≤ 32 * length v.segments.homes

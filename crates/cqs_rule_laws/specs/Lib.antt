@@ -28,6 +28,7 @@ pub mod Silent
 pub mod Called
 pub mod CallRule
 pub mod Causes
+pub mod PassedOver
 pub mod Crew
 pub mod Alone
 pub mod Configured

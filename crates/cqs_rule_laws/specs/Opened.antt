@@ -45,16 +45,16 @@ first_cell values k = if nat_lt k values then cell_word k 2 k else cell_word k 0
 
 -- the opening value of each word of a slot: of its head, its number of settled cells and one that
 -- is idle, and its cells
-abbrev pub first_in_slot : ℕ → ℕ → ℕ → ℕ
-first_in_slot values slot i =
-    if i == 0 then head_word slot 2
+abbrev pub first_in_slot : ℕ → ℕ → ℕ → ℕ → ℕ
+first_in_slot made values slot i =
+    if i == 0 then (if nat_lt slot made then head_word slot 2 else 0)
     else if nat_lt i 16 then 0 else first_cell values (32 * slot + (i - 16))
 
--- the opening value of each word of a table with so many slots
+-- the opening value of each word of a table in which so many segments are made
 abbrev pub first_word : ℕ → ℕ → List ℕ → ℕ → ℕ
-first_word slots values words i =
-    if nat_le 128 i then first_in_slot values ((i - 128) / 48) ((i - 128) % 48)
-    else if i == tail_place then segment_word (slots - 1) (slots - 1)
+first_word made values words i =
+    if nat_le 128 i then first_in_slot made values ((i - 128) / 48) ((i - 128) % 48)
+    else if i == tail_place then segment_word (made - 1) (made - 1)
     else if i == crew_place then crew_word 1 1
     else if i == resumes_place then values
     else if i == client_place 0 then slice_index words 0
@@ -64,6 +64,6 @@ first_word slots values words i =
     else 0
 
 -- the words of a table as it opens
-pub record IsOpening (count slots values : ℕ) (words : List ℕ) (items : List ℕ) : Type 0 where
+pub record IsOpening (count made values : ℕ) (words : List ℕ) (items : List ℕ) : Type 0 where
   pub long : length items ≡ count
-  pub at : (i : ℕ) → i < count → slice_index items i ≡ first_word slots values words i
+  pub at : (i : ℕ) → i < count → slice_index items i ≡ first_word made values words i

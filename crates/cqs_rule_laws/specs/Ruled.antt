@@ -20,7 +20,7 @@ use Rattle.cqs_rule_laws.specs.declared.view.Glimpse.{Glimpse}
 use Rattle.cqs_core.specs.QueueCells.{rank, IsInstalled, IsBare}
 use Rattle.cqs_rule_laws.specs.declared.view.Opening.{Opening}
 use Rattle.cqs_rule_laws.specs.Object.{Object, Primitive}
-use Rattle.cqs_rule_laws.specs.Layout.{crew_place, suspends_place, resumes_place, slots_for, client_words, IsIdle}
+use Rattle.cqs_rule_laws.specs.Layout.{crew_place, suspends_place, resumes_place, client_words, IsIdle}
 use Rattle.cqs_rule_laws.specs.Drawn.{KnowsDrawn}
 use Rattle.cqs_rule_laws.specs.Hidden.{Hidden, state_at}
 use Rattle.cqs_rule_laws.specs.Lists.{Has, IsDistinct, total, IsPrefix, part}
@@ -67,9 +67,9 @@ abbrev pub word_at : Hidden → ℕ → ℕ
 word_at c k = word_of k (state_at c.queue k) (c.payloads k)
 
 -- The cells, in the slots of their segments.
-pub record CellsShow (t : Segments) (c : Hidden) (cells : ℕ) (words : List ℕ) : Type 0 where
-  pub shows : Shows (slots_for cells) t (word_at c) words
-  pub sound : AreSound (slots_for cells) t
+pub record CellsShow (t : Segments) (c : Hidden) (slots : ℕ) (words : List ℕ) : Type 0 where
+  pub shows : Shows slots t (word_at c) words
+  pub sound : AreSound slots t
   pub made : AreCells (word_at c) t.tail
   pub fits : (k : ℕ) → c.payloads k < 2 ^ 20
   pub bare : (k : ℕ) → IsBare (state_at c.queue k) → c.payloads k ≡ 0
@@ -116,6 +116,23 @@ pub record IsFinal (passes_on : Type 0) (q : Queue) (k : ℕ) : Type 0 where
   pub met : (p : ℕ) → slice_get q.doing p ≡ Some (doing.Ticket k) → (state_at q k ≡ state.Cancelled)
       × passes_on
   pub reached : (k < q.resumes) ⊎ ((state_at q k ≡ state.Cancelled) × passes_on)
+
+-- The cell in this state is over: its value was taken, or nobody waits there any more who was
+-- served, or its wait has left and resumes of the client pass on.
+abbrev pub IsOverAt : Type 0 → Queue → ℕ → CoreState → Type 0
+IsOverAt passes_on q k state.Taken = Unit {0}
+IsOverAt passes_on q k state.Resumed = (p : ℕ) → IsWaitOf q p k → ⊥
+IsOverAt passes_on q k state.Cancelled = passes_on
+IsOverAt passes_on q k state.Empty = ⊥
+IsOverAt passes_on q k state.Waiter = ⊥
+IsOverAt passes_on q k state.Value = ⊥
+IsOverAt passes_on q k state.Broken = ⊥
+IsOverAt passes_on q k state.Cancelling = ⊥
+IsOverAt passes_on q k state.Delegated = ⊥
+IsOverAt passes_on q k state.Refused = ⊥
+
+abbrev pub IsOver : Type 0 → Queue → ℕ → Type 0
+IsOver passes_on q k = IsOverAt passes_on q k (state_at q k)
 
 -- the number at which a pass works
 abbrev pub number_at : Doing → ℕ
@@ -225,14 +242,17 @@ module _ {E S : Type 0} (object : Object E) where
     pub live : ℕ
     pub crew : CrewShows passes made live s.words s.views
     pub counters : CountersShow hidden.queue s.words
+    pub slots : ℕ
     pub segments : Segments
-    pub cells : CellsShow segments hidden (cell_count passes limit primitive.values) s.words
+    pub cells : CellsShow segments hidden slots s.words
     pub settled : ℕ → Bool
     pub finals : (k : ℕ) → settled k ≡ true → IsFinal (IsSmart primitive.manner.leaving)
         hidden.queue k
+    pub all_settled : (k : ℕ) → IsOver (IsSmart primitive.manner.leaving) hidden.queue k
+        → settled k ≡ true
     pub counted : AreCounted segments settled (duties_in (λ (v : View E S). v.facts.duties) s.views)
     pub to_leave : AreToLeave segments s.views
-    pub spares : SparesHold (slots_for (cell_count passes limit primitive.values)) segments s.views
+    pub spares : SparesHold slots segments s.views
     pub idle_words : IdleWords s.words
     pub room : HasRoom passes limit primitive.values hidden
     pub door : DoorMayDraw hidden
@@ -249,4 +269,4 @@ module _ {E S : Type 0} (object : Object E) where
     pub shelf : Shelf primitive.opens handed live s.homes s.views
     pub noted : (j : ℕ) (v : View E S) → get_elem? s.views j ≡ some v → IsPrefix v.seen log
     pub each_segment : (j : ℕ) (v : View E S) → get_elem? s.views j ≡ some v
-        → KnowsSegments segments v
+        → KnowsSegments slots segments v

@@ -1,16 +1,17 @@
 -- The steps on the words of segments: none is an event, and each leaves its pass at what it was at,
 -- but for the slots that it has spare, the cells that it is to count, and the segments that it is
 -- to retire.
-use Rattle.std.specs.Prelude.{◌≡◌, ◌≢◌, ℕ, ◌+◌, ◌<◌, ◌^◌, List, [], ◌∷◌, ◌++◌, length}
+use Rattle.std.specs.Prelude.{◌≡◌, ◌≢◌, ◌⊎◌, ℕ, ◌+◌, ◌/◌, ◌<◌, ◌^◌, Bool, List, [], ◌∷◌, ◌++◌, length}
+use Rattle.cqs_core.specs.declared.doings.Doing.TheVariants as doing
 use Rattle.cqs_words.specs.Head.{head_word}
 use Rattle.cqs_words.specs.Segment.{segment_word}
 use Rattle.cqs_slots.specs.Slots.{IsHome}
 use Rattle.cqs_slots.specs.declared.seen.Seen.{Seen}
 use Rattle.cqs_slots.specs.Told.{TailFound, HeadFound, CountFound, SeesMore}
+use Rattle.cqs_rule_laws.specs.declared.config.CancelMode.TheVariants.{Simple}
 use Rattle.cqs_rule_laws.specs.declared.view.Facts.{Facts}
 use Rattle.cqs_rule_laws.specs.declared.view.Spare.{Spare}
 use Rattle.cqs_rule_laws.specs.declared.view.View.{View}
-use Rattle.cqs_rule_laws.specs.Layout.{slots_for}
 use Rattle.cqs_rule_laws.specs.Lists.{Has, without}
 
 -- a pass at these facts that has these slots spare and these cells to count, and found these heads
@@ -55,20 +56,34 @@ module _ {E S : Type 0} where
   abbrev pub Went : List Spare → List (ℕ × ℕ) → View E S → View E S → Type 0
   Went spares heads v w = LeftBy heads spares v.facts.duties v w
 
+  -- The number is one that the pass works at, or waits at, and isn't to pass over: it is to install
+  -- its wait there, or is in the middle of leaving; or it has the ticket, in simple mode.
+  abbrev pub IsOwnNumber : View E S → ℕ → Type 0
+  IsOwnNumber v k =
+      (v.facts.doing ≡ doing.Drawn k) ⊎ (Has k v.facts.waits ⊎ ((v.facts.doing ≡ doing.Leaving k)
+      ⊎ (((on : Bool) × (v.facts.doing ≡ doing.Decided k on))
+      ⊎ ((v.facts.doing ≡ doing.Ticket k) × (v.opening.mode ≡ Simple)))))
+
+  -- no segment of such a number was taken out
+  abbrev pub OwnStand : View E S → View E S → Type 0
+  OwnStand v w = (k : ℕ) → IsOwnNumber v k → Has (k / 32) w.segments.outs → ⊥
+
   -- the tail was loaded
   pub record TailLoaded (v : View E S) (n : ℕ) (w : View E S) : Type 0 where
-    pub found : TailFound (slots_for v.cells) n w.segments
+    pub found : TailFound v.slots n w.segments
+    pub stands : OwnStand v w
     pub went : Went v.facts.spare_slots [] v w
 
   -- The tail was loaded by a pass that is to retire a segment. The last one is none of those any
   -- more: who makes the next is to retire it.
   pub record LastKept (v : View E S) (n : ℕ) (w : View E S) : Type 0 where
-    pub found : TailFound (slots_for v.cells) n w.segments
+    pub found : TailFound v.slots n w.segments
     pub went : Went v.facts.spare_slots [] (not_retiring found.id v) w
 
   -- the head of the slot x was
   pub record HeadLoaded (x : ℕ) (v : View E S) (n : ℕ) (w : View E S) : Type 0 where
     pub found : HeadFound x n v.segments w.segments
+    pub stands : OwnStand v w
     pub went : Went v.facts.spare_slots ((x, n) ∷ []) v w
 
   -- a free slot was claimed, where its head still was this
@@ -83,7 +98,7 @@ module _ {E S : Type 0} where
   pub record Began (before : List Spare) (x : ℕ) (v : View E S) (n : ℕ) (w : View E S) : Type 0
     where
       pub fits : x < 2 ^ 16
-      pub found : TailFound (slots_for v.cells) n w.segments
+      pub found : TailFound v.slots n w.segments
       pub went : Went (before ++ reset_slot x found.id 1 ∷ []) [] v w
 
   -- one more of its words was reset
@@ -102,7 +117,7 @@ module _ {E S : Type 0} where
     pub home : n ≡ segment_word a slot → IsHome w.segments.homes (a + 1) x
     pub last : n ≡ segment_word a slot → length w.segments.homes ≡ a + 2
     pub made : n ≡ segment_word a slot → Went before [] (retiring_too a v) w
-    pub found : n ≢ segment_word a slot → TailFound (slots_for v.cells) n w.segments
+    pub found : n ≢ segment_word a slot → TailFound v.slots n w.segments
     pub missed : n ≢ segment_word a slot → Went v.facts.spare_slots [] v w
 
   -- A cell that the pass settled was counted, as it was to do last. Where it was the last of its

@@ -1,11 +1,12 @@
--- The segments, beside what is hidden: no client sees them. As long as no slot is used again, each
--- segment stands in the slot of its number from the opening on.
-use Rattle.std.specs.Prelude.{ℕ, ◌*◌, ◌<◌}
-use Rattle.cqs_slots.specs.Slots.{Segments, IsHome}
+-- The segments, beside what is hidden: no client sees them.
+use Rattle.std.specs.Prelude.{◌≡◌, ℕ, ◌*◌, ◌<◌, ◌≤◌, length}
+use Rattle.cqs_slots.specs.Slots.{Segments}
 use Rattle.cqs_slots.specs.Told.{Knows}
 use Rattle.cqs_rule_laws.specs.declared.view.View.{View}
 
--- what a pass knows of them
-pub record KnowsSegments {E S : Type 0} (t : Segments) (v : View E S) : Type 0 where
+-- What a pass knows of them. Each number that can be drawn has a segment, as long as all segments
+-- are made as the table opens.
+pub record KnowsSegments {E S : Type 0} (slots : ℕ) (t : Segments) (v : View E S) : Type 0 where
   pub seen : Knows t v.segments
-  pub flat : (s : ℕ) → 32 * s < v.cells → IsHome v.segments.homes s s
+  pub slots_are : 0 < v.weight → v.slots ≡ slots
+  pub made : v.cells ≤ 32 * length v.segments.homes

@@ -8,7 +8,6 @@ use Rattle.cqs_core.specs.declared.doings.Doing.TheVariants as doing
 use Rattle.cqs_slots.specs.declared.seen.Seen.{Seen}
 use Rattle.cqs_slots.specs.Told.{SeesMore, all_seen}
 use Rattle.cqs_slots.specs.Opened.{first_segments}
-use Rattle.cqs_rule_laws.specs.Layout.{slots_for}
 use Rattle.cqs_rule_laws.specs.declared.view.View.{View}
 use Rattle.cqs_rule_laws.specs.declared.config.CancelMode.TheVariants.{Smart}
 use Rattle.cqs_rule_laws.specs.declared.view.Facts.{Facts}
@@ -66,8 +65,9 @@ abbrev pub none_seen : Seen
 none_seen = record { homes = []; kept = []; outs = []; full = []; lit = 0 }
 
 module _ {E S : Type 0} where
-  abbrev pub first_view : ℕ → ℕ → ℕ → Opening → ℕ → View E S
-  first_view passes limit cells opening held = record {
+  -- the first view, of a table with so many slots, where so many segments are made as it opens
+  abbrev pub first_view : ℕ → ℕ → ℕ → ℕ → ℕ → Opening → ℕ → View E S
+  first_view passes limit cells slots made opening held = record {
     number = 0;
     weight = 1;
     facts = first_facts held;
@@ -85,7 +85,8 @@ module _ {E S : Type 0} where
     drawn = record { all = cells - (limit + passes); own = 0 };
     limit = limit;
     cells = cells;
-    segments = all_seen (first_segments (slots_for cells));
+    slots = slots;
+    segments = all_seen (first_segments made);
     passes = passes;
     opening = opening;
   }
@@ -140,7 +141,7 @@ module _ {E S : Type 0} where
 
   -- what is left of the view of a pass that was joined away
   abbrev pub spent : View E S
-  spent = record (first_view 0 0 0 (record { size = 0; mode = Smart }) 0)
+  spent = record (first_view 0 0 0 0 0 (record { size = 0; mode = Smart }) 0)
       { weight = 0; own = []; alone = false; segments = none_seen }
 
   -- a note of what the pass has seen, which nobody stands behind
@@ -175,6 +176,7 @@ module _ {E S : Type 0} where
     pub drawn : w.drawn ≡ v.drawn
     pub limit : w.limit ≡ v.limit
     pub cells : w.cells ≡ v.cells
+    pub slots : w.slots ≡ v.slots
     pub passes : w.passes ≡ v.passes
     pub opening : w.opening ≡ v.opening
     pub segments : SeesMore v.segments w.segments

@@ -10,6 +10,10 @@ use std::marker::PhantomData;
 pub struct Key<C> {
     pub passes: u64,
     pub limit: u64,
+    /// How many slots for segments.
+    pub slots: u64,
+    /// How many segments are made as the table opens.
+    pub made: u64,
     pub client: C,
 }
 
@@ -25,6 +29,6 @@ impl<C: ClientWords> TableRule<Option<C::Slot>, View<C::Entry, C::Slot>, Key<C>>
     ghost holds = { λ key. Ruled C.object (C.primitive key.client) key.passes key.limit };
 
     ghost first = { λ key. first_view key.passes key.limit
-        (cell_count key.passes key.limit (C.primitive key.client).values)
+        (cell_count key.passes key.limit (C.primitive key.client).values) key.slots key.made
         (C.primitive key.client).opening (C.primitive key.client).held };
 }

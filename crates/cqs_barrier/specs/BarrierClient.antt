@@ -296,6 +296,7 @@ begun-owed one_element has payload paid begun suits = absurd suits
 pub barrier-client : {T : Type 0} (parties : ℕ) → 0 < parties → parties ≤ 32
     → IsClient barrier_object (barrier_primitive {T = T} parties)
 barrier-client parties some low = record {
+  mode = refl;
   begins = λ passes any few. begins-barrier parties passes some low any;
   steps = λ c t p k found has payload words log handed shown opens there paid suits low low'.
       steps-barrier parties c t p k found has payload words log handed shown opens there paid suits;

@@ -34,7 +34,7 @@ use Rattle.cqs_rule_laws.specs.declared.config.CancelMode.TheVariants.{Smart, Si
 use Rattle.cqs_rule_laws.specs.Client.{IsClient, IsPaid, IsPayload, IsBegun, begun_by, no_number}
 use Rattle.cqs_rule_laws.specs.Hidden.{Hidden, hidden_after, has_after, has_gained, has_paid, has_both, has_none, hands_over}
 use Rattle.cqs_rule_laws.specs.Lists.{NamesOnly}
-use Rattle.cqs_rule_laws.specs.Manner.{Suits}
+use Rattle.cqs_rule_laws.specs.Manner.{mode_for, Suits}
 use Rattle.cqs_rule_laws.specs.Opened.{first_hidden, four}
 use Rattle.cqs_rule_laws.specs.Views.{first_has}
 use Rattle.cqs_latch.specs.Latch.{is_simple, further_of, latch_shown, HoldsNothing, HoldsPlain, ShowsLatch, nothing_more, latch_object, latch_manner, latch_primitive}
@@ -450,10 +450,15 @@ begins-latch_few mode size c words log p has one_element payload shows idle ther
     no-element Smart suits = suits
     no-element Simple suits = suits
 
+its-mode : (mode : CancelMode) → mode ≡ mode_for (latch_manner mode).leaving
+its-mode Simple = refl
+its-mode Smart = refl
+
 -- a latch of either mode
 pub latch-client : {T : Type 0} (mode : CancelMode) (size : ℕ)
     → IsClient latch_object (latch_primitive {T = T} mode size)
 latch-client mode size = record {
+  mode = its-mode mode;
   begins = λ passes any few. begins-latch mode size passes any few;
   steps = λ c t p k found has payload words log handed shows opens there paid suits low low'.
       steps-latch mode size c t p k found has payload words log shows opens there paid suits low;

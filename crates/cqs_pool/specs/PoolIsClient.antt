@@ -376,6 +376,7 @@ begun-put one_element has payload begun suits paid = paid
 
 pub pool-client : {T : Type 0} (size : ℕ) → IsClient pool_object (pool_primitive {T = T} size)
 pool-client size = record {
+  mode = refl;
   begins = λ passes any few. begins-pool size passes any;
   steps = λ c t p k found has payload words log handed shows opens there paid suits low low'.
       steps-pool size c t p k found has payload log shows opens there paid suits;

@@ -260,6 +260,7 @@ semaphore-slots permits = record {
 pub semaphore-client : {T : Type 0} (permits : ℕ) → 0 < permits → permits ≤ 1048576
     → IsClient semaphore_object (semaphore_primitive {T = T} permits)
 semaphore-client permits some low = record {
+  mode = refl;
   begins = λ passes any few. begins-core permits passes some low any few;
   steps = λ c t p k found has payload words log handed core opens there paid suits low low'.
       steps-core permits c t p k found has payload words log core opens there suits low low';

@@ -9,8 +9,8 @@ use Rattle.cqs_words.specs.Segment.{segment_word}
 use Rattle.cqs_slots.specs.Layout.{count_place, empty_word, head_place, slot_cell, tail_place}
 use Rattle.cqs_slots.specs.Slots.{IsHome}
 use Rattle.cqs_rule_laws.specs.declared.view.View.{View}
-use Rattle.cqs_rule_laws.specs.Layout.{slots_for}
 use Rattle.cqs_rule_laws.specs.Lists.{Has}
+use Rattle.cqs_rule_laws.specs.Client.{IsClient}
 use Rattle.cqs_rule_laws.specs.Object.{Object, Primitive}
 use Rattle.cqs_rule_laws.specs.Ruled.{Ruled}
 use Rattle.cqs_rule_laws.specs.SegmentSteps.{Began, CellCounted, Claimed, CountLoaded, Extended, HeadLoaded, Lit, Reset, Retired}
@@ -46,9 +46,9 @@ module _ {E S : Type 0} (object : Object E) (primitive : Primitive E S) (passes 
         subst (λ z. Allows R many id me i (λ n. either (eqb n z) b n) told) (sym e)
         (subst (λ z. Allows R many id me i (λ n. either (eqb n c) z n) told) (sym f) allowed)
 
-    pub head-allowed : (word x : ℕ) → word ≡ head_place x → me.0.weight ≡ 1 → x < slots_for me.0.cells
+    pub head-allowed : IsClient object primitive → (word x : ℕ) → word ≡ head_place x → me.0.weight ≡ 1 → x < me.0.slots
         → Allows R many id me word (λ n. n) (head_told (step many word 0 0 none) me)
-    head-allowed word x at one low =
+    head-allowed client word x at one low =
         let T = head_told (step many word 0 0 none) me in
         at-word word (head_place x) (λ n. n) T at
         (retold (head_place x) (λ n. n) (λ n me'. HeadLoaded x me.0 n me'.0 × (me'.1 ≡ me.1)) T
@@ -57,9 +57,9 @@ module _ {E S : Type 0} (object : Object E) (primitive : Primitive E S) (passes 
               let e : x ≡ y = omega arith in subst (λ z. HeadLoaded z me.0 n me'.0) e t.0,
           t.1,
         ))
-        (loads-head object primitive passes limit many id me x one low))
+        (loads-head object primitive passes limit client many id me x one low))
 
-    pub count-allowed : (word x : ℕ) → word ≡ count_place x → me.0.weight ≡ 1 → x < slots_for me.0.cells
+    pub count-allowed : (word x : ℕ) → word ≡ count_place x → me.0.weight ≡ 1 → x < me.0.slots
         → Allows R many id me word (λ n. n) (count_told (step many word 0 0 none) me)
     count-allowed word x at one low =
         let T = count_told (step many word 0 0 none) me in
@@ -73,7 +73,7 @@ module _ {E S : Type 0} (object : Object E) (primitive : Primitive E S) (passes 
         (loads-count object primitive passes limit many id me x one low))
 
     pub claim-allowed : (word saw new x i : ℕ) → word ≡ head_place x → saw ≡ head_word i 0 → new ≡ head_word i 1
-        → me.0.weight ≡ 1 → x < slots_for me.0.cells
+        → me.0.weight ≡ 1 → x < me.0.slots
         → Allows R many id me word (λ n. either (eqb n saw) new n) (claim_told (step many word saw new none) me)
     claim-allowed word saw new x i at saw-is new-is one low =
         let T = claim_told (step many word saw new none) me in

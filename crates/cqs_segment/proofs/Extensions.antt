@@ -7,7 +7,6 @@ use Rattle.cqs_slots.specs.Told.{SeesMore, TailFound}
 use Rattle.cqs_slots.proofs.Lists.{home-prefix}
 use Rattle.cqs_rule_laws.specs.declared.view.Spare.{Spare}
 use Rattle.cqs_rule_laws.specs.declared.view.View.{View}
-use Rattle.cqs_rule_laws.specs.Layout.{slots_for}
 use Rattle.cqs_rule_laws.specs.SegmentSteps.{Began, Extended, LeftBy, reset_slot, retiring, retiring_too, Went}
 use Rattle.cqs_segment.specs.Extends.{WasLast}
 use Rattle.cqs_segment.specs.Walks.{but_last, EndsReset, Left, Looked}
@@ -49,7 +48,7 @@ module _ {E S : Type 0} where
   -- the load of the tail, by which a reset begins: the tail's home is known then
   pub begun-home : (v w : View E S) (before : List Spare) (x : ℕ) (tail : TailWord) → TailFits tail
       → Began before x v (packed_tail tail) w
-      → IsHome w.segments.homes tail.id tail.slot × (tail.slot < slots_for v.cells)
+      → IsHome w.segments.homes tail.id tail.slot × (tail.slot < v.slots)
       × (EndsReset w.facts.spare_slots x tail.id 1)
       × LeftBy [] (before ++ reset_slot x tail.id 1 ∷ []) v.facts.duties v w
   begun-home v w before x tail fits b =
@@ -72,10 +71,10 @@ module _ {E S : Type 0} where
   -- the same where the tail is the one that is wanted; then the words are reset, and the tail's head is made live
   module _ (u v w z : View E S) (x : ℕ) (tail after : TailWord) (fits : TailFits tail) (same : tail ≡ after)
       (began : Began (but_last u.facts.spare_slots) x u (packed_tail tail) v) where
-    start : IsHome v.segments.homes after.id after.slot × (after.slot < slots_for u.cells)
+    start : IsHome v.segments.homes after.id after.slot × (after.slot < u.slots)
         × (EndsReset v.facts.spare_slots x after.id 1)
         × LeftBy [] (but_last u.facts.spare_slots ++ reset_slot x after.id 1 ∷ []) u.facts.duties u v
-    start = subst (λ (t : TailWord). IsHome v.segments.homes t.id t.slot × (t.slot < slots_for u.cells)
+    start = subst (λ (t : TailWord). IsHome v.segments.homes t.id t.slot × (t.slot < u.slots)
         × (EndsReset v.facts.spare_slots x t.id 1)
         × LeftBy [] (but_last u.facts.spare_slots ++ reset_slot x t.id 1 ∷ []) u.facts.duties u v) same
         (begun-home u v (but_last u.facts.spare_slots) x tail fits began)
@@ -98,7 +97,7 @@ module _ {E S : Type 0} where
             (subst (λ (p : List Spare × List ℕ). Left (p.0 ++ reset_slot x after.id 34 ∷ []) p.1 v w)
             (λ i. (now.0 i, duties-left u v left.0 _ u.facts.duties left.1 i)) reset)
 
-        low-reset : after.slot < slots_for u.cells
+        low-reset : after.slot < u.slots
         low-reset = start.1
 
         module _ (looked : Looked w z) where
@@ -114,7 +113,7 @@ module _ {E S : Type 0} where
               → SeesMore z.segments y.segments → LeftBy heads spares duties (retiring retires u) y → WasLast after y
           last-before y heads spares duties retires more left = record {
             home = home-then z y after.id after.slot more home-lit;
-            low = subst (λ (t : View E S). after.slot < slots_for t.cells) (sym left.is) low-reset;
+            low = subst (λ (t : View E S). after.slot < t.slots) (sym left.is) low-reset;
           }
 
           pub ends-lit : EndsReset z.facts.spare_slots x after.id 34
@@ -138,10 +137,10 @@ module _ {E S : Type 0} where
 
     -- and is kept where it wasn't
     pub extension-missed : n ≢ segment_word a slot
-        → TailFound (slots_for w.cells) n w.segments × Left (before ++ reset_slot x a 34 ∷ []) duties u w
+        → TailFound w.slots n w.segments × Left (before ++ reset_slot x a 34 ∷ []) duties u w
     extension-missed other =
         let went = e.missed other in (
-          subst (λ z. TailFound (slots_for z) n w.segments) (sym (ap (λ (z : View E S). z.cells) went.is))
+          subst (λ z. TailFound z n w.segments) (sym (ap (λ (z : View E S). z.slots) went.is))
               (e.found other),
           and-looked u v w (before ++ reset_slot x a 34 ∷ []) duties reset ([], went),
         )

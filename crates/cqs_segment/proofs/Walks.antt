@@ -5,8 +5,8 @@ use Rattle.cqs_slots.specs.Told.{SeesMore}
 use Rattle.cqs_slots.proofs.Loads.{sees-same, sees-then}
 use Rattle.cqs_rule_laws.specs.declared.view.Spare.{Spare}
 use Rattle.cqs_rule_laws.specs.declared.view.View.{View}
-use Rattle.cqs_rule_laws.specs.SegmentSteps.{LeftBy, reset_slot, Reset, retiring, view_left, Went}
-use Rattle.cqs_segment.specs.Walks.{but_last, EndsReset, IsWalker, Left, Looked}
+use Rattle.cqs_rule_laws.specs.SegmentSteps.{IsOwnNumber, LeftBy, OwnStand, reset_slot, Reset, retiring, view_left, Went}
+use Rattle.cqs_segment.specs.Walks.{but_last, EndsReset, IsWalker, Left, Looked, LookedAt}
 use Rattle.cqs_segment.proofs.Endings.{ends-reset}
 
 module _ {E S : Type 0} where
@@ -59,7 +59,7 @@ module _ {E S : Type 0} where
   pub walks-on : (words : ℕ) (v w : View E S) (heads : List (ℕ × ℕ)) (spares : List Spare) (duties : List ℕ)
       → LeftBy heads spares duties v w → IsWalker words v → IsWalker words w
   walks-on words v w heads spares duties p walker =
-      let cells = ap (λ (z : View E S). z.cells) p.is in record {
+      let slots = ap (λ (z : View E S). z.slots) p.is in record {
         one = ap (λ (z : View E S). z.weight) p.is ∙ walker.one;
         wide = let q = walker.wide in omega arith;
         few = let q = walker.few in omega arith;
@@ -92,6 +92,22 @@ module _ {E S : Type 0} where
       → Left spares duties u v → Went v.facts.spare_slots heads v w → Left spares duties u w
   look-then u v w spares duties heads p q = went-then u v w spares spares duties heads p
       (subst (λ l. Went l heads v w) (spares-left u v p.0 spares duties p.1) q)
+
+  -- one more head was found
+  pub looked-once : (u v w : View E S) (most later : ℕ) (head : ℕ × ℕ) → LookedAt most u v
+      → Went v.facts.spare_slots (head ∷ []) v w → most + 1 ≤ later → LookedAt later u w
+  unfolding look-then went-then and-then
+  looked-once u v w most later head p q more =
+      let longer = length-append p.0 (head ∷ []) in
+      let few = p.1 in
+      let then = look-then u v w u.facts.spare_slots u.facts.duties (head ∷ []) (p.0, p.2) q in
+      (p.0 ++ head ∷ [], omega arith, then.1)
+
+  -- a step tells of the numbers that the pass works or waits at, and so of those that it does then
+  pub own-then : (v w : View E S) (heads : List (ℕ × ℕ)) (spares : List Spare) (duties : List ℕ)
+      → LeftBy heads spares duties v w → OwnStand v w → OwnStand w w
+  own-then v w heads spares duties p stands =
+      λ k own out. stands k (subst (λ (z : View E S). IsOwnNumber z k) p.is own) out
 
   -- and a call that does
   pub looked-then : (u v w : View E S) (heads more : List (ℕ × ℕ)) (spares : List Spare) (duties : List ℕ)

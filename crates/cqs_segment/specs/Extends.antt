@@ -5,7 +5,6 @@ use Rattle.cqs_words.specs.Segment.{packed_tail}
 use Rattle.cqs_slots.specs.Slots.{IsHome}
 use Rattle.cqs_slots.specs.Told.{TailFound}
 use Rattle.cqs_rule_laws.specs.declared.view.View.{View}
-use Rattle.cqs_rule_laws.specs.Layout.{slots_for}
 use Rattle.cqs_rule_laws.specs.SegmentSteps.{LeftBy, reset_slot, retiring_too}
 use Rattle.cqs_segment.specs.Walks.{but_last, Left}
 use Rattle.cqs_segment.specs.declared.extending.Extended.{Extended}
@@ -19,7 +18,7 @@ pub record IsMade {E S : Type 0} (tail : TailWord) (w : View E S) : Type 0 where
 -- The pass knows the slot where this segment was made, which was the last.
 pub record WasLast {E S : Type 0} (tail : TailWord) (w : View E S) : Type 0 where
   pub home : IsHome w.segments.homes tail.id tail.slot
-  pub low : tail.slot < slots_for w.cells
+  pub low : tail.slot < w.slots
 
 module _ {E S : Type 0} where
   -- The pass keeps the spare. Either its first load found this tail, and it changed no word; or it
@@ -38,5 +37,5 @@ module _ {E S : Type 0} where
       × IsMade tail w × WasLast after w
       × Left (but_last v.facts.spare_slots) v.facts.duties (retiring_too after.id v) w
   ExtendsTo after x (Seen tail) v w =
-      (tail ≢ after) × TailFound (slots_for w.cells) (packed_tail tail) w.segments
+      (tail ≢ after) × TailFound w.slots (packed_tail tail) w.segments
       × IsKept after x tail v w

@@ -3,7 +3,6 @@ use Rattle.std.specs.Prelude.{◌≡◌, ◌≢◌, ℕ, ◌+◌, ◌<◌, ◌�
 use Rattle.cqs_words.specs.Head.{head_word}
 use Rattle.cqs_slots.specs.Slots.{IsHome}
 use Rattle.cqs_rule_laws.specs.declared.view.View.{View}
-use Rattle.cqs_rule_laws.specs.Layout.{slots_for}
 use Rattle.cqs_rule_laws.specs.Lists.{Has}
 use Rattle.cqs_rule_laws.specs.SegmentSteps.{LeftBy, retiring, retiring_too}
 use Rattle.cqs_segment.specs.Walks.{but_last, Looked}
@@ -13,12 +12,17 @@ use Rattle.cqs_segment.specs.declared.leaving.Retired.{Retired}
 use Rattle.cqs_segment.specs.declared.leaving.Retired.TheVariants.{Out, Gone, Last, Early}
 
 -- The segment was made in this slot, which is its home for good, and stood there when that was
--- loaded; or it was taken out; or it wasn't made when the tail was loaded.
+-- loaded; or it was taken out, and isn't the last; or it wasn't made when the tail was loaded.
 abbrev pub Finds : {E S : Type 0} → ℕ → Found → View E S → Type 0
 Finds s (At x) w =
-    IsHome w.segments.homes s x × (x < slots_for w.cells) × (Has s w.segments.outs → ⊥)
-Finds s Over w = Has s w.segments.outs
+    IsHome w.segments.homes s x × (x < w.slots) × (Has s w.segments.outs → ⊥)
+Finds s Over w = Has s w.segments.outs × (s + 1 < length w.segments.homes)
 Finds s Far w = length w.segments.homes ≤ s
+
+-- the segment was taken out, if its home is one of these slots
+abbrev pub HasLeftFrom : {E S : Type 0} → ℕ → ℕ → ℕ → View E S → View E S → Type 0
+HasLeftFrom first end s v w =
+    (x : ℕ) → IsHome v.segments.homes s x → first ≤ x → x < end → Has s w.segments.outs
 
 -- The segment left by this call, whose exchange found its head live; or it had left before, and the
 -- exchange found another head; it is the last; or fewer than 32 cells were loaded as counted: where

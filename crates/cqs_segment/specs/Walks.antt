@@ -1,5 +1,5 @@
 -- What a call on segments needs of its pass, and what it leaves.
-use Rattle.std.specs.Prelude.{◌≡◌, ℕ, ◌<◌, ◌^◌, List, [], ◌∷◌, ◌++◌}
+use Rattle.std.specs.Prelude.{◌≡◌, ℕ, ◌≤◌, List, [], ◌∷◌, ◌++◌, length}
 use Rattle.cqs_rule_laws.specs.declared.view.Spare.{Spare}
 use Rattle.cqs_rule_laws.specs.declared.view.View.{View}
 use Rattle.cqs_rule_laws.specs.Layout.{words_for}
@@ -8,8 +8,8 @@ use Rattle.cqs_rule_laws.specs.SegmentSteps.{LeftBy, reset_slot}
 -- a live pass on a table of so many words
 pub record IsWalker {E S : Type 0} (words : ℕ) (v : View E S) : Type 0 where
   pub one : v.weight ≡ 1
-  pub wide : words ≡ words_for v.cells
-  pub few : v.cells < 2 ^ 31
+  pub wide : words ≡ words_for v.slots
+  pub few : v.slots ≤ 65536
 
 -- the list without its last element
 abbrev pub but_last : {A : Type 0} → List A → List A
@@ -38,3 +38,9 @@ module _ {E S : Type 0} where
   -- it has what it had
   abbrev pub Looked : View E S → View E S → Type 0
   Looked v w = Left v.facts.spare_slots v.facts.duties v w
+
+  -- and found at most so many heads
+  abbrev pub LookedAt : ℕ → View E S → View E S → Type 0
+  LookedAt most v w =
+      (heads : List (ℕ × ℕ)) × (length heads ≤ most)
+      × LeftBy heads v.facts.spare_slots v.facts.duties v w

@@ -3,7 +3,6 @@
 ghost use Rattle.std.specs.Prelude.{◌≡◌, ◌+◌, ◌*◌, ◌<◌, ◌≤◌, ◌^◌, ◌++◌, ◌∷◌, []};
 ghost use Rattle.cqs_words.specs.Segment.{TailFits};
 ghost use Rattle.cqs_slots.specs.Slots.{IsHome};
-ghost use Rattle.cqs_rule_laws.specs.Layout.{slots_for};
 ghost use Rattle.cqs_rule_laws.specs.SegmentSteps.{reset_slot};
 ghost use Rattle.cqs_segment.specs.Extends.{ExtendsTo};
 ghost use Rattle.cqs_segment.specs.Walks.{but_last, EndsReset, EndsWith, IsWalker, Left, Looked};
@@ -33,7 +32,7 @@ fn reset<C: ClientWords>(
 )
     requires table { seat.old.table_id ≡ words.now.table_id }
     requires walker { IsWalker words.now.table_id.words seat.old.me.0 }
-    requires low { slot < slots_for seat.old.me.0.cells }
+    requires low { slot < seat.old.me.0.slots }
     requires small { 32 * (after + 2) ≤ 2 ^ 40 }
     requires last { EndsReset seat.old.me.0.facts.spare_slots slot after 1 }
     ensures table { seat.new.table_id ≡ seat.old.table_id }
@@ -56,7 +55,7 @@ fn make_live<C: ClientWords>(
 )
     requires table { seat.old.table_id ≡ words.now.table_id }
     requires walker { IsWalker words.now.table_id.words seat.old.me.0 }
-    requires low { made.slot < slots_for seat.old.me.0.cells }
+    requires low { made.slot < seat.old.me.0.slots }
     requires fits { TailFits made }
     requires home { IsHome seat.old.me.0.segments.homes made.id made.slot }
     ensures table { seat.new.table_id ≡ seat.old.table_id }
@@ -84,7 +83,7 @@ pub fn extend<C: ClientWords>(
 ) -> Extended
     requires table { seat.old.table_id ≡ words.now.table_id }
     requires walker { IsWalker words.now.table_id.words seat.old.me.0 }
-    requires low { slot < slots_for seat.old.me.0.cells }
+    requires low { slot < seat.old.me.0.slots }
     requires small { 32 * (after.id + 2) ≤ 2 ^ 40 }
     requires last { EndsWith seat.old.me.0.facts.spare_slots slot }
     ensures table { seat.new.table_id ≡ seat.old.table_id }

@@ -3,7 +3,6 @@
 ghost use Rattle.std.specs.Prelude.{◌≡◌, ◌<◌, ◌≤◌, ◌^◌};
 ghost use mathlib.Core.Logic.{◌↔◌};
 ghost use Rattle.cqs_slots.specs.Slots.{IsHome};
-ghost use Rattle.cqs_rule_laws.specs.Layout.{slots_for};
 ghost use Rattle.cqs_rule_laws.specs.Lists.{Has};
 ghost use Rattle.cqs_segment.specs.Finds.{Counts, IsDoneWith};
 ghost use Rattle.cqs_segment.specs.Walks.{EndsAt, IsWalker};
@@ -32,6 +31,7 @@ pub enum Retired {
 /// Counts a cell that the pass settled: the last of those that it is to count, one of this
 /// segment. It answers how many of the segment's cells are counted then, this one among them. Where
 /// all are, the pass is to retire the segment.
+#[inline(always)]
 pub fn count_settled<C: ClientWords>(
     words: &Shared<Option<C::Slot>, View<C::Entry, C::Slot>, Key<C>, Rule<C>>,
     seat: &mut Seat<Option<C::Slot>, View<C::Entry, C::Slot>>,
@@ -40,7 +40,7 @@ pub fn count_settled<C: ClientWords>(
 ) -> u32
     requires table { seat.old.table_id ≡ words.now.table_id }
     requires walker { IsWalker words.now.table_id.words seat.old.me.0 }
-    requires low { slot < slots_for seat.old.me.0.cells }
+    requires low { slot < seat.old.me.0.slots }
     requires home { IsHome seat.old.me.0.segments.homes id slot }
     requires last { EndsAt seat.old.me.0.facts.duties id }
     ensures table { seat.new.table_id ≡ seat.old.table_id }
@@ -55,6 +55,7 @@ pub fn count_settled<C: ClientWords>(
 
 /// Takes a segment out where its 32 cells are counted and it isn't the last one. The slot is, or
 /// was, its home. The pass isn't to retire it any more then, whatever the answer.
+#[inline(always)]
 pub fn retire<C: ClientWords>(
     words: &Shared<Option<C::Slot>, View<C::Entry, C::Slot>, Key<C>, Rule<C>>,
     seat: &mut Seat<Option<C::Slot>, View<C::Entry, C::Slot>>,
@@ -63,7 +64,7 @@ pub fn retire<C: ClientWords>(
 ) -> Retired
     requires table { seat.old.table_id ≡ words.now.table_id }
     requires walker { IsWalker words.now.table_id.words seat.old.me.0 }
-    requires low { slot < slots_for seat.old.me.0.cells }
+    requires low { slot < seat.old.me.0.slots }
     requires small { id < 2 ^ 36 }
     requires home { IsHome seat.old.me.0.segments.homes id slot }
     ensures table { seat.new.table_id ≡ seat.old.table_id }

@@ -1,7 +1,6 @@
 //! Slots are claimed, given back, and asked for what they hold.
 
 ghost use Rattle.std.specs.Prelude.{◌≡◌, ◌<◌, ◌^◌, ◌++◌, ◌∷◌, [], IsTrue, false, IfSome, IfNone};
-ghost use Rattle.cqs_rule_laws.specs.Layout.{slots_for};
 ghost use Rattle.cqs_rule_laws.specs.SegmentSteps.{claimed_slot, LeftBy};
 ghost use Rattle.cqs_segment.specs.Slots.{Confirms, SawAllTaken, SawTaken};
 ghost use Rattle.cqs_segment.specs.Walks.{but_last, EndsWith, IsWalker, Left};
@@ -20,7 +19,7 @@ fn try_claim<C: ClientWords>(
 ) -> bool
     requires table { seat.old.table_id ≡ words.now.table_id }
     requires walker { IsWalker words.now.table_id.words seat.old.me.0 }
-    requires low { slot < slots_for seat.old.me.0.cells }
+    requires low { slot < seat.old.me.0.slots }
     ensures table { seat.new.table_id ≡ seat.old.table_id }
     ensures won { IsTrue result → Left
         (seat.old.me.0.facts.spare_slots ++ claimed_slot slot ∷ []) seat.old.me.0.facts.duties
@@ -50,7 +49,7 @@ pub fn claim<C: ClientWords>(
 ) -> Option<u32>
     requires table { seat.old.table_id ≡ words.now.table_id }
     requires walker { IsWalker words.now.table_id.words seat.old.me.0 }
-    requires all { slots ≡ slots_for seat.old.me.0.cells }
+    requires all { slots ≡ seat.old.me.0.slots }
     ensures table { seat.new.table_id ≡ seat.old.table_id }
     ensures claimed { IfSome result (λ x. (x < slots) × Left
         (seat.old.me.0.facts.spare_slots ++ claimed_slot x ∷ []) seat.old.me.0.facts.duties
@@ -75,7 +74,7 @@ pub fn give_back<C: ClientWords>(
 )
     requires table { seat.old.table_id ≡ words.now.table_id }
     requires walker { IsWalker words.now.table_id.words seat.old.me.0 }
-    requires low { slot < slots_for seat.old.me.0.cells }
+    requires low { slot < seat.old.me.0.slots }
     requires last { EndsWith seat.old.me.0.facts.spare_slots slot }
     ensures table { seat.new.table_id ≡ seat.old.table_id }
     ensures given { LeftBy [] (but_last seat.old.me.0.facts.spare_slots)
@@ -95,7 +94,7 @@ pub fn confirm<C: ClientWords>(
 ) -> bool
     requires table { seat.old.table_id ≡ words.now.table_id }
     requires walker { IsWalker words.now.table_id.words seat.old.me.0 }
-    requires low { slot < slots_for seat.old.me.0.cells }
+    requires low { slot < seat.old.me.0.slots }
     requires small { id < 2 ^ 36 }
     ensures table { seat.new.table_id ≡ seat.old.table_id }
     ensures confirms { Confirms slot id result seat.old.me.0 seat.new.me.0 }

@@ -4,7 +4,6 @@ ghost use Rattle.std.specs.Prelude.{◌≡◌, ◌+◌, ◌*◌, ◌<◌, ◌≤
 ghost use Rattle.cqs_words.specs.Head.{head_word};
 ghost use Rattle.cqs_words.specs.Segment.{TailFits, packed_tail};
 ghost use Rattle.cqs_slots.specs.Slots.{IsHome};
-ghost use Rattle.cqs_rule_laws.specs.Layout.{slots_for};
 ghost use Rattle.cqs_rule_laws.specs.Lists.{Has};
 ghost use Rattle.cqs_rule_laws.specs.SegmentSteps.{Began, CellCounted, Claimed, CountLoaded, Extended, HeadLoaded, LastKept, Lit, Reset, Retired, TailLoaded, Went};
 ghost use Rattle.cqs_segment.specs.Walks.{but_last, EndsAt, EndsReset, EndsWith, IsWalker};
@@ -39,6 +38,7 @@ pub(crate) fn load_tail<C: ClientWords>(
 }
 
 // The same by a pass that is to retire a segment: the last one is none of those any more.
+#[inline(always)]
 pub(crate) fn keep_last<C: ClientWords>(
     words: &Shared<Option<C::Slot>, View<C::Entry, C::Slot>, Key<C>, Rule<C>>,
     seat: &mut Seat<Option<C::Slot>, View<C::Entry, C::Slot>>,
@@ -64,7 +64,7 @@ pub(crate) fn load_head<C: ClientWords>(
 ) -> u64
     requires table { seat.old.table_id ≡ words.now.table_id }
     requires walker { IsWalker words.now.table_id.words seat.old.me.0 }
-    requires low { slot < slots_for seat.old.me.0.cells }
+    requires low { slot < seat.old.me.0.slots }
     ensures table { seat.new.table_id ≡ seat.old.table_id }
     ensures loaded { HeadLoaded slot seat.old.me.0 result seat.new.me.0 }
     ensures bare { seat.new.me.1 ≡ seat.old.me.1 }
@@ -72,6 +72,7 @@ pub(crate) fn load_head<C: ClientWords>(
     load_at::<C, HeadLoad<C>>(words, seat, head_at(slot))
 }
 
+#[inline(always)]
 pub(crate) fn load_count<C: ClientWords>(
     words: &Shared<Option<C::Slot>, View<C::Entry, C::Slot>, Key<C>, Rule<C>>,
     seat: &mut Seat<Option<C::Slot>, View<C::Entry, C::Slot>>,
@@ -79,7 +80,7 @@ pub(crate) fn load_count<C: ClientWords>(
 ) -> u64
     requires table { seat.old.table_id ≡ words.now.table_id }
     requires walker { IsWalker words.now.table_id.words seat.old.me.0 }
-    requires low { slot < slots_for seat.old.me.0.cells }
+    requires low { slot < seat.old.me.0.slots }
     ensures table { seat.new.table_id ≡ seat.old.table_id }
     ensures loaded { CountLoaded slot seat.old.me.0 result seat.new.me.0 }
     ensures bare { seat.new.me.1 ≡ seat.old.me.1 }
@@ -96,7 +97,7 @@ pub(crate) fn claim_slot<C: ClientWords>(
 ) -> u64
     requires table { seat.old.table_id ≡ words.now.table_id }
     requires walker { IsWalker words.now.table_id.words seat.old.me.0 }
-    requires low { slot < slots_for seat.old.me.0.cells }
+    requires low { slot < seat.old.me.0.slots }
     requires small { id < 2 ^ 36 }
     ensures table { seat.new.table_id ≡ seat.old.table_id }
     ensures claimed { Claimed slot (head_word id 0) seat.old.me.0 result seat.new.me.0 }
@@ -117,7 +118,7 @@ pub(crate) fn give_slot<C: ClientWords>(
 )
     requires table { seat.old.table_id ≡ words.now.table_id }
     requires walker { IsWalker words.now.table_id.words seat.old.me.0 }
-    requires low { slot < slots_for seat.old.me.0.cells }
+    requires low { slot < seat.old.me.0.slots }
     requires last { EndsWith seat.old.me.0.facts.spare_slots slot }
     ensures table { seat.new.table_id ≡ seat.old.table_id }
     ensures given { Went (but_last seat.old.me.0.facts.spare_slots) [] seat.old.me.0
@@ -159,7 +160,7 @@ pub(crate) fn reset_cell<C: ClientWords>(
 )
     requires table { seat.old.table_id ≡ words.now.table_id }
     requires walker { IsWalker words.now.table_id.words seat.old.me.0 }
-    requires low { slot < slots_for seat.old.me.0.cells }
+    requires low { slot < seat.old.me.0.slots }
     requires small { 32 * (after + 2) ≤ 2 ^ 40 }
     requires cell { cell < 32 }
     requires last { EndsReset seat.old.me.0.facts.spare_slots slot after (cell + 1) }
@@ -180,7 +181,7 @@ pub(crate) fn reset_count<C: ClientWords>(
 )
     requires table { seat.old.table_id ≡ words.now.table_id }
     requires walker { IsWalker words.now.table_id.words seat.old.me.0 }
-    requires low { slot < slots_for seat.old.me.0.cells }
+    requires low { slot < seat.old.me.0.slots }
     requires last { EndsReset seat.old.me.0.facts.spare_slots slot after 33 }
     ensures table { seat.new.table_id ≡ seat.old.table_id }
     ensures reset { Reset (but_last seat.old.me.0.facts.spare_slots) slot after 33
@@ -199,7 +200,7 @@ pub(crate) fn light<C: ClientWords>(
 )
     requires table { seat.old.table_id ≡ words.now.table_id }
     requires walker { IsWalker words.now.table_id.words seat.old.me.0 }
-    requires low { made.slot < slots_for seat.old.me.0.cells }
+    requires low { made.slot < seat.old.me.0.slots }
     requires fits { TailFits made }
     requires home { IsHome seat.old.me.0.segments.homes made.id made.slot }
     requires kept { IsHome seat.old.me.0.segments.kept made.id id }
@@ -245,6 +246,7 @@ pub(crate) fn swap_tail<C: ClientWords>(
 }
 
 // Counts the last of the cells that the pass is to count. It answers how many were counted before.
+#[inline(always)]
 pub(crate) fn add_count<C: ClientWords>(
     words: &Shared<Option<C::Slot>, View<C::Entry, C::Slot>, Key<C>, Rule<C>>,
     seat: &mut Seat<Option<C::Slot>, View<C::Entry, C::Slot>>,
@@ -253,7 +255,7 @@ pub(crate) fn add_count<C: ClientWords>(
 ) -> u64
     requires table { seat.old.table_id ≡ words.now.table_id }
     requires walker { IsWalker words.now.table_id.words seat.old.me.0 }
-    requires low { slot < slots_for seat.old.me.0.cells }
+    requires low { slot < seat.old.me.0.slots }
     requires home { IsHome seat.old.me.0.segments.homes id slot }
     requires last { EndsAt seat.old.me.0.facts.duties id }
     ensures table { seat.new.table_id ≡ seat.old.table_id }
@@ -265,6 +267,7 @@ pub(crate) fn add_count<C: ClientWords>(
 }
 
 // Frees the slot of the segment, if its head is still live with this id. It answers whether it was.
+#[inline(always)]
 pub(crate) fn retire_slot<C: ClientWords>(
     words: &Shared<Option<C::Slot>, View<C::Entry, C::Slot>, Key<C>, Rule<C>>,
     seat: &mut Seat<Option<C::Slot>, View<C::Entry, C::Slot>>,
@@ -273,7 +276,7 @@ pub(crate) fn retire_slot<C: ClientWords>(
 ) -> u64
     requires table { seat.old.table_id ≡ words.now.table_id }
     requires walker { IsWalker words.now.table_id.words seat.old.me.0 }
-    requires low { slot < slots_for seat.old.me.0.cells }
+    requires low { slot < seat.old.me.0.slots }
     requires small { id < 2 ^ 36 }
     requires home { IsHome seat.old.me.0.segments.homes id slot }
     requires early { id + 1 < length seat.old.me.0.segments.homes }

@@ -1,13 +1,11 @@
 //! Where a segment stands.
 
-ghost use Rattle.std.specs.Prelude.{◌≡◌, ℕ, ◌+◌, ◌<◌, ◌^◌, [], length};
-ghost use Rattle.cqs_words.specs.Segment.{packed_tail};
-ghost use Rattle.cqs_slots.specs.Slots.{IsHome};
+ghost use Rattle.std.specs.Prelude.{◌≡◌, ◌+◌, ◌-◌, ◌<◌, ◌≤◌, ◌^◌, [], length, IfSome, IfNone};
+ghost use Rattle.cqs_words.specs.Segment.{TailFits, packed_tail};
 ghost use Rattle.cqs_slots.specs.Told.{TailFound};
-ghost use Rattle.cqs_rule_laws.specs.Layout.{slots_for};
-ghost use Rattle.cqs_rule_laws.specs.SegmentSteps.{LeftBy};
-ghost use Rattle.cqs_segment.specs.Finds.{Finds};
-ghost use Rattle.cqs_segment.specs.Walks.{IsWalker, Looked};
+ghost use Rattle.cqs_rule_laws.specs.SegmentSteps.{LeftBy, OwnStand};
+ghost use Rattle.cqs_segment.specs.Finds.{Finds, HasLeftFrom};
+ghost use Rattle.cqs_segment.specs.Walks.{IsWalker, LookedAt};
 
 use crate::steps::{load_head, load_tail};
 use atomic_table::{Seat, Shared};
@@ -33,8 +31,9 @@ pub fn last<C: ClientWords>(
     requires table { seat.old.table_id ≡ words.now.table_id }
     requires walker { IsWalker words.now.table_id.words seat.old.me.0 }
     ensures table { seat.new.table_id ≡ seat.old.table_id }
-    ensures found { TailFound (slots_for seat.new.me.0.cells) (packed_tail result)
+    ensures found { TailFound seat.new.me.0.slots (packed_tail result)
         seat.new.me.0.segments }
+    ensures fits { TailFits result }
     ensures looked { LeftBy [] seat.old.me.0.facts.spare_slots seat.old.me.0.facts.duties
         seat.old.me.0 seat.new.me.0 }
     ensures bare { seat.new.me.1 ≡ seat.old.me.1 }
@@ -42,36 +41,41 @@ pub fn last<C: ClientWords>(
     load_tail::<C>(words, seat)
 }
 
-// Looks through the heads for a segment that isn't the last.
+// Looks through the heads of these slots for a segment that isn't the last.
 fn scan<C: ClientWords>(
     words: &Shared<Option<C::Slot>, View<C::Entry, C::Slot>, Key<C>, Rule<C>>,
     seat: &mut Seat<Option<C::Slot>, View<C::Entry, C::Slot>>,
-    slots: u32,
+    first: u32,
+    end: u32,
     id: u64,
-) -> Found
+) -> Option<u32>
     requires table { seat.old.table_id ≡ words.now.table_id }
     requires walker { IsWalker words.now.table_id.words seat.old.me.0 }
-    requires all { slots ≡ slots_for seat.old.me.0.cells }
+    requires order { first ≤ end }
+    requires inside { end ≤ seat.old.me.0.slots }
     requires small { id < 2 ^ 36 }
-    requires inside { (x : ℕ) → IsHome seat.old.me.0.segments.homes id x → x < slots }
     requires before { id + 1 < length seat.old.me.0.segments.homes }
+    requires own { OwnStand seat.old.me.0 seat.old.me.0 }
     ensures table { seat.new.table_id ≡ seat.old.table_id }
-    ensures finds { Finds id result seat.new.me.0 }
-    ensures looked { Looked seat.old.me.0 seat.new.me.0 }
+    ensures found { IfSome result (λ slot. Finds id (Found.At slot) seat.new.me.0) }
+    ensures none { IfNone result (HasLeftFrom first end id seat.old.me.0 seat.new.me.0) }
+    ensures own { OwnStand seat.new.me.0 seat.new.me.0 }
+    ensures looked { LookedAt (end - first) seat.old.me.0 seat.new.me.0 }
     ensures bare { seat.new.me.1 ≡ seat.old.me.1 }
 {
     let tag = HeadTag::Live;
     let live = HeadWord { id, tag }.pack();
-    for slot in 0..slots {
+    for slot in first..end {
         if load_head::<C>(words, seat, slot) == live {
-            return Found::At(slot);
+            return Some(slot);
         }
     }
-    Found::Over
+    None
 }
 
 /// Finds the segment of this number. It loads the tail first, and the heads only where the segment
-/// comes before the last one: so a segment that no head names had left.
+/// comes before the last one: so a segment that no head names had left. It begins to look where the
+/// segment would stand if no slot had been used again.
 pub fn find<C: ClientWords>(
     words: &Shared<Option<C::Slot>, View<C::Entry, C::Slot>, Key<C>, Rule<C>>,
     seat: &mut Seat<Option<C::Slot>, View<C::Entry, C::Slot>>,
@@ -80,19 +84,27 @@ pub fn find<C: ClientWords>(
 ) -> Found
     requires table { seat.old.table_id ≡ words.now.table_id }
     requires walker { IsWalker words.now.table_id.words seat.old.me.0 }
-    requires all { slots ≡ slots_for seat.old.me.0.cells }
+    requires all { slots ≡ seat.old.me.0.slots }
     requires small { id < 2 ^ 36 }
     ensures table { seat.new.table_id ≡ seat.old.table_id }
     ensures finds { Finds id result seat.new.me.0 }
-    ensures looked { Looked seat.old.me.0 seat.new.me.0 }
+    ensures own { OwnStand seat.new.me.0 seat.new.me.0 }
+    ensures looked { LookedAt slots seat.old.me.0 seat.new.me.0 }
     ensures bare { seat.new.me.1 ≡ seat.old.me.1 }
 {
     let last = load_tail::<C>(words, seat);
     if id == last.id {
         return Found::At(last.slot);
     }
-    if id < last.id {
-        return scan::<C>(words, seat, slots, id);
+    if id > last.id {
+        return Found::Far;
     }
-    Found::Far
+    let guess = (id % u64::from(slots)) as u32;
+    if let Some(slot) = scan::<C>(words, seat, guess, slots, id) {
+        return Found::At(slot);
+    }
+    match scan::<C>(words, seat, 0, guess, id) {
+        Some(slot) => Found::At(slot),
+        None => Found::Over,
+    }
 }

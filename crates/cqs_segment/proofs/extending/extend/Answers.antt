@@ -2,7 +2,6 @@ use Rattle.std.proofs.Common.{◌≢◌, inl, inr, refl, sym, ap, subst, arith}
 use Rattle.cqs_words.specs.Segment.{packed_tail, TailFits}
 use Rattle.cqs_slots.specs.Told.{TailFound}
 use Rattle.cqs_slots.proofs.Loads.{sees-then}
-use Rattle.cqs_rule_laws.specs.Layout.{slots_for}
 use Rattle.cqs_rule_laws.specs.SegmentSteps.{retiring_too}
 use Rattle.cqs_segment.specs.Walks.{but_last}
 use Rattle.cqs_segment.proofs.Extensions.{begun-home, compared-other, compared-same, ends-lit, extension-made, extension-missed, home-lit, home-reset, home-then, last-before, left-lit, one-tail, start-ends}
@@ -52,7 +51,7 @@ returns-then-ne-clause-extends g c =
     let began = c.begin-tail.ensures.began in
     let start = begun-home u v (but_last u.facts.spare_slots) c.args.slot tail c.begin-tail.ensures.fits began in (
       compared-other tail c.args.after c.if-ne.ensures,
-      subst (λ z. TailFound (slots_for z) (packed_tail tail) v.segments) (sym (ap (λ z. z.cells) began.went.is))
+      subst (λ z. TailFound z (packed_tail tail) v.segments) (sym (ap (λ z. z.slots) began.went.is))
           began.found,
       inl start.3,
     )

@@ -1,4 +1,4 @@
-use Rattle.std.proofs.Common.{[], sym, ◌∙◌, arith}
+use Rattle.std.proofs.Common.{sym, ◌∙◌, arith}
 use Rattle.cqs_core.proofs.Places.{get-below}
 use Rattle.cqs_segment.proofs.Extensions.{home-then}
 use Rattle.cqs_segment.proofs.Leavings.{early-done, gone-done, kept-done, out-done}

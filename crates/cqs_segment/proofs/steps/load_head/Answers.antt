@@ -5,7 +5,8 @@ pub load_at-requires-clause-allowed : goal.load_at-requires-clause-allowed
 load_at-requires-clause-allowed g c =
     let C = g.C.ClientWords in
     let k = c.args.words.now.key in
-    head-allowed C.object (C.primitive k.client) k.passes k.limit _ _ _ _ c.args.slot c.head_at.ensures
+    head-allowed C.object (C.primitive k.client) k.passes k.limit _ _ _ (g.met.C.ClientWords.keeps k.client) _
+    c.args.slot c.head_at.ensures
     c.requires.walker.one c.requires.low
 
 pub returns-clause-loaded : goal.returns-clause-loaded

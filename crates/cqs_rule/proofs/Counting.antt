@@ -1,10 +1,10 @@
 -- A cell that a step settled is counted right after the step.
-use Rattle.std.proofs.Common.{◌≡◌, ◌≢◌, ℕ, ◌-◌, ◌/◌, ◌%◌, ◌<◌, ◌≤◌, ◌^◌, Bool, true, false, List, [], Some, ◌∷◌, length, Option, None, refl, ap, sym, ◌∙◌, subst, ⊎_elim, arith}
+use Rattle.std.proofs.Common.{◌≡◌, ◌≢◌, ℕ, ◌/◌, ◌<◌, ◌≤◌, ◌^◌, Bool, true, false, List, [], Some, ◌∷◌, length, Option, None, refl, ap, sym, ◌∙◌, subst, ⊎_elim, inl, inr, arith}
 use Rattle.cqs_core.specs.declared.cells.CoreState.{CoreState}
 use Rattle.cqs_core.specs.declared.cells.CoreState.TheVariants as state
 use Rattle.cqs_core.specs.QueueSteps.{QueueStep, row_of, StepRow, at_counter, at_cell}
 use Rattle.cqs_slots.specs.Slots.{IsHome}
-use Rattle.cqs_slots.proofs.Lists.{home-prefix}
+use Rattle.cqs_slots.proofs.Lists.{has_prefix, home-prefix}
 use Rattle.cqs_slots.proofs.Loads.{sees-then}
 use Rattle.cqs_words.specs.Cell.{index_in, unpacked_cell}
 use Rattle.cqs_rule_laws.specs.declared.client.ClientWords.{Ghosts}
@@ -20,8 +20,8 @@ use Rattle.cqs_rule_laws.specs.Facts.{facts_after, is_owing}
 use Rattle.cqs_rule_laws.specs.Hidden.{Hidden}
 use Rattle.cqs_rule_laws.specs.Inside.{IsInside}
 use Rattle.cqs_rule_laws.specs.Kinds.{change_by}
-use Rattle.cqs_rule_laws.specs.Layout.{slots_for, words_for}
-use Rattle.cqs_rule_laws.specs.Lists.{IsPrefix}
+use Rattle.cqs_rule_laws.specs.Layout.{words_for}
+use Rattle.cqs_rule_laws.specs.Lists.{Has, IsPrefix}
 use Rattle.cqs_rule_laws.specs.Loads.{LoadStep, counts, watches, polls, cancels, meets, misses, CarriesLearned, event_of, facts_looked, IsTicketOf, learned_of, learns, Loaded, Looked, MayLoad, MayLook, MayStand, served_in, told_at}
 use Rattle.cqs_rule_laws.specs.Object.{Object, Primitive}
 use Rattle.cqs_rule_laws.specs.Placed.{KnowsPlace, place_at}
@@ -43,10 +43,17 @@ use Rattle.cqs_rule.specs.declared.queue.Queue.{Queue}
 use Rattle.cqs_rule.specs.declared.queue.spares.Spares.{Spares}
 use Rattle.cqs_rule.specs.Passes.{IsOf, pass_view}
 use Rattle.cqs_rule.specs.Spares.{HasSpare}
+use Rattle.cqs_rule.specs.declared.queue.homes.Homes.{Homes}
+use Rattle.cqs_rule.specs.Homes.{KnowsHomes}
+use Rattle.cqs_rule.proofs.Homes.{goes-left, keeps-homes}
 use Rattle.cqs_rule.proofs.Moved.{Keeps}
 use Rattle.cqs_rule.proofs.Places.{knows-saw}
 use Rattle.cqs_rule.proofs.Retired.{then-retired}
 use Rattle.cqs_rule.proofs.Segments.{alone-left, inside-left, live-left}
+
+abbrev head_of : List ℕ → ℕ
+head_of [] = 0
+head_of (x ∷ l) = x
 
 -- the number that was counted, as the program compares it
 pub all-counted : {n m : ℕ} → m ≡ 32 → m ≡ n → n ≡ 32
@@ -63,9 +70,9 @@ last-of-one duties s is =
 module _ {E S : Type 0} where
   -- a slot is one of the table, and the home of its segment, after the cell was counted
   pub low-then : (v w : View E S) (heads : List (ℕ × ℕ)) (spares : List Spare) (duties : List ℕ) (x : ℕ)
-      → LeftBy heads spares duties v w → x < slots_for v.cells → x < slots_for w.cells
+      → LeftBy heads spares duties v w → x < v.slots → x < w.slots
   low-then v w heads spares duties x left low =
-      subst (λ (z : View E S). x < slots_for z.cells) (sym left.is) low
+      subst (λ (z : View E S). x < z.slots) (sym left.is) low
 
   pub home-then : (v w : View E S) (heads : List (ℕ × ℕ)) (spares : List Spare) (duties : List ℕ) (s x : ℕ)
       → LeftBy heads spares duties v w → IsHome v.segments.homes s x → IsHome w.segments.homes s x
@@ -77,6 +84,7 @@ module _ {E S : Type 0} where
   counted-none v none = record {
     heads = [];
     few = omega arith;
+    full = λ s one. inl refl;
     left = subst (λ d. LeftBy [] v.facts.spare_slots d v v) none (looked-none v);
     none = λ e. refl;
   }
@@ -87,6 +95,7 @@ module _ {E S : Type 0} where
   counted-one v w s one left = record {
     heads = [];
     few = omega arith;
+    full = λ q is. inl refl;
     left = subst (λ d. LeftBy [] v.facts.spare_slots d v w) (last-of-one v.facts.duties s one).1 left;
     none = λ e. let not = sym one ∙ e in absurd (cc);
   }
@@ -94,13 +103,17 @@ module _ {E S : Type 0} where
   -- or was to leave
   pub counted-last : (v u w : View E S) (x s : ℕ) (answer : Retired) → v.facts.duties ≡ s ∷ []
       → v.facts.to_retire ≡ [] → LeftBy [] v.facts.spare_slots (but_last v.facts.duties) (retiring_too s v) u
-      → IsDoneWith x s answer u w → Counted v w
-  counted-last v u w x s answer one nobody left done =
+      → Has s u.segments.full → IsDoneWith x s answer u w → Counted v w
+  counted-last v u w x s answer one nobody left full done =
       let first = subst (λ d. LeftBy [] v.facts.spare_slots d (retiring_too s v) u)
       (last-of-one v.facts.duties s one).1 left in
       let then = then-retired v u w [] v.facts.spare_slots [] x s answer nobody first done in record {
         heads = then.0;
         few = subst (λ d. length then.0 ≤ length d) (sym one) then.1;
+        full = λ q is.
+            let same : q ≡ s = ap head_of (sym is ∙ one) in
+            inr (subst (λ z. Has z w.segments.full) (sym same)
+            (has_prefix s u.segments.full w.segments.full done.looked.1.segments.full full));
         left = then.2;
         none = λ e. let not = sym one ∙ e in absurd (cc);
       }
@@ -359,41 +372,45 @@ module _ {C E S : Type 0} (object : Object E) (primitive : C → Primitive E S) 
 
 -- what a pass keeps but for what it is to count
 pub record Keeping {E S : Type 0} (w : View E S) (items : List (ℕ × Option S))
-    (words number held further : ℕ) (owes : Bool) (waits ticket : ℕ) (spares : Spares) : Type 0 where
+    (words number held further : ℕ) (owes : Bool) (waits ticket : ℕ) (spares : Spares)
+    (homes : Homes) : Type 0 where
   pub live : (w.weight ≡ 1) × (length items ≡ 0)
   pub number_is : w.number ≡ number
   pub held_is : w.facts.has.held ≡ held
   pub further_is : w.facts.has.further ≡ further
-  pub spares_are : HasSpare w.facts.spare_slots w.cells spares
+  pub spares_are : HasSpare w.facts.spare_slots w.slots spares
+  pub homes_are : KnowsHomes w homes
   pub retired : w.facts.to_retire ≡ []
   pub shut : w.facts.open_slot ≡ None
   pub owes_is : is_owing w.facts.doing ≡ owes
   pub waits_are : length w.facts.waits ≡ waits
   pub ticket_is : IsTicketOf w.facts.doing ticket
-  pub cells_are : words_for w.cells ≡ words
+  pub slots_are : words_for w.slots ≡ words
   pub inside : IsInside w
   pub few_cells : w.cells < 2 ^ 31
 
 module _ {S E : Type 0} where
   -- and what it keeps once its cell is counted
   pub keeps-counted : (u w : View E S) (items later : List (ℕ × Option S)) (words number held further : ℕ) (owes : Bool)
-      (waits ticket : ℕ) (spares : Spares) → Keeping u items words number held further owes waits ticket spares
-      → Counted u w → later ≡ items → Keeps w later words number held further owes waits ticket spares
-  keeps-counted u w items later words number held further owes waits ticket spares k c none =
+      (waits ticket : ℕ) (spares : Spares) (homes : Homes)
+      → Keeping u items words number held further owes waits ticket spares homes
+      → Counted u w → later ≡ items → Keeps w later words number held further owes waits ticket spares homes
+  keeps-counted u w items later words number held further owes waits ticket spares homes k c none =
       let is = c.left.is in record {
         live = (ap (λ (z : View E S). z.weight) is ∙ k.live.0, ap length none ∙ k.live.1);
         number_is = ap (λ (z : View E S). z.number) is ∙ k.number_is;
         held_is = ap (λ (z : View E S). z.facts.has.held) is ∙ k.held_is;
         further_is = ap (λ (z : View E S). z.facts.has.further) is ∙ k.further_is;
-        spares_are = subst (λ (z : View E S). HasSpare z.facts.spare_slots z.cells spares) (sym is)
+        spares_are = subst (λ (z : View E S). HasSpare z.facts.spare_slots z.slots spares) (sym is)
             (record { are = k.spares_are.are; low = k.spares_are.low });
+        homes_are = keeps-homes u w (goes-left u w c.heads u.facts.spare_slots [] c.left) homes k.homes_are;
         counted = ap (λ (z : View E S). z.facts.duties) is;
         retired = ap (λ (z : View E S). z.facts.to_retire) is ∙ k.retired;
         shut = ap (λ (z : View E S). z.facts.open_slot) is ∙ k.shut;
         owes_is = ap (λ (z : View E S). is_owing z.facts.doing) is ∙ k.owes_is;
         waits_are = ap (λ (z : View E S). length z.facts.waits) is ∙ k.waits_are;
         ticket_is = λ j e. k.ticket_is j (sym (ap (λ (z : View E S). z.facts.doing) is) ∙ e);
-        cells_are = ap (λ (z : View E S). words_for z.cells) is ∙ k.cells_are;
+        slots_are = ap (λ (z : View E S). words_for z.slots) is ∙ k.slots_are;
         inside = inside-left u w c.heads u.facts.spare_slots [] c.left k.inside;
         few_cells = subst (λ n. n < 2147483648) (sym (ap (λ (z : View E S). z.cells) is)) k.few_cells;
       }
@@ -428,6 +445,7 @@ module _ {E S : Type 0} (u w : View E S) (k : Counted u w) where
     drawn = s.drawn;
     limit = s.limit;
     cells = s.cells;
+    slots = s.slots;
     passes = s.passes;
     opening = s.opening;
     segments = sees-then v.segments u.segments w.segments s.segments k.left.segments;

@@ -15,10 +15,10 @@ module _ {C S E : Type 0} {g : Ghosts C S E} where
   pub word-inside : (q : Queue C S E) (p : Pass C S E g) (word place : ℕ) → place ≡ client_place word → word < 4
       → p.seat.table_id ≡ q.table.shared.table_id → place < q.table.shared.table_id.words
   word-inside q p word place is few table =
-      let words : words_for p.seat.me.0.cells ≡ q.table.shared.table_id.words =
-      p.cells_are ∙ ap (λ (t : TableId). t.words) table in
+      let words : words_for p.seat.me.0.slots ≡ q.table.shared.table_id.words =
+      p.slots_are ∙ ap (λ (t : TableId). t.words) table in
       subst (λ n. n < q.table.shared.table_id.words) (sym is)
-      (subst (λ n. client_place word < n) words (client-inside word p.seat.me.0.cells few))
+      (subst (λ n. client_place word < n) words (client-inside word p.seat.me.0.slots few))
 
   -- the step was made on that word
   pub moved-word : (event : Event E) (made : ℕ → Bool) (word place : ℕ) (p : Pass C S E g) (n : ℕ) (w : View E S)

@@ -11,6 +11,8 @@ use Rattle.cqs_rule_laws.specs.Facts.{is_owing}
 use Rattle.cqs_rule_laws.specs.Layout.{words_for}
 use Rattle.cqs_rule_laws.specs.Saw.{IsLive}
 use Rattle.cqs_rule_laws.specs.Views.{facts_joined, joined}
+use Rattle.cqs_rule_laws.proofs.Places.{goes-met}
+use Rattle.cqs_rule.proofs.Homes.{keeps-homes}
 use Rattle.cqs_rule.proofs.Moved.{Keeps}
 use Rattle.cqs_rule.proofs.Spared.{same-spares}
 
@@ -42,6 +44,7 @@ module _ {C S E : Type 0} {g : Ghosts C S E} where
           theirs = m.theirs;
           limit = m.limit;
           cells = m.cells;
+          slots = m.slots;
           passes = m.passes;
           opening = m.opening;
           segments = m.segments;
@@ -57,7 +60,7 @@ module _ {C S E : Type 0} {g : Ghosts C S E} where
   pub keeps-met : (p given : Pass C S E g) (w : View E S) → Gathered p given w → IsLive g.object w
       → (pass_view given).facts.spare_slots ≡ [] → (items : List (ℕ × Option S)) (words : ℕ) → items ≡ p.seat.me.1 →
       p.seat.table_id.words ≡ words
-      → Keeps w items words p.number (p.held + given.held) p.further p.owes p.waits p.ticket p.spares
+      → Keeps w items words p.number (p.held + given.held) p.further p.owes p.waits p.ticket p.spares p.homes
   keeps-met p given w gathered live spareless items words none table =
       let m = gathered.met in
       let are = m.facts_are in record {
@@ -68,14 +71,15 @@ module _ {C S E : Type 0} {g : Ghosts C S E} where
         spares_are = same-spares _ _ _ _ p.spares
             (ap (λ (f : Facts). f.spare_slots) are
             ∙ (ap (λ l. (pass_view p).facts.spare_slots ++ l) spareless ∙ append-nil _))
-            m.cells p.spares_are;
+            m.slots p.spares_are;
+        homes_are = keeps-homes (pass_view p) w (goes-met g.object (pass_view p) w _ _ _ _ m) p.homes p.homes_are;
         counted = ap (λ (f : Facts). f.duties) are ∙ (λ i. p.counted i ++ given.counted i);
         retired = ap (λ (f : Facts). f.to_retire) are ∙ (λ i. p.retired i ++ given.retired i);
         shut = ap (λ (f : Facts). f.open_slot) are ∙ p.shut;
         owes_is = ap (λ (f : Facts). is_owing f.doing) are ∙ p.owes_is;
         waits_are = ap (λ (f : Facts). length f.waits) are ∙ p.waits_are;
         ticket_is = λ k e. p.ticket_is k (sym (ap (λ (f : Facts). f.doing) are) ∙ e);
-        cells_are = ap words_for m.cells ∙ (p.cells_are ∙ table);
+        slots_are = ap words_for m.slots ∙ (p.slots_are ∙ table);
         inside = live.inside;
         few_cells = subst (λ k. k < 2147483648) (sym m.cells) p.few_cells;
       }

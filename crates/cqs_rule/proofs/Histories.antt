@@ -44,6 +44,7 @@ module _ {E S : Type 0} (object : Object E) where
       drawn = refl;
       limit = refl;
       cells = refl;
+      slots = refl;
       passes = refl;
       opening = refl;
       segments = (same-here v).segments;
@@ -72,6 +73,7 @@ module _ {E S : Type 0} (object : Object E) where
       alone = refl;
       drawn = refl;
       limit = q.same.limit;
+      slots = q.same.slots;
       cells = q.same.cells;
       passes = q.same.passes;
       opening = q.same.opening;

@@ -2,6 +2,7 @@ pub mod Crossed
 pub mod Fitting
 pub mod Gathered
 pub mod Halved
+pub mod Homes
 pub mod Looked
 pub mod Moved
 pub mod Numbers
@@ -10,7 +11,7 @@ pub mod Slots
 pub mod Ticketless
 pub mod Words
 pub mod Histories
-mod Segments
+pub mod Segments
 pub mod Counting
 pub mod Retired
 pub mod Spared

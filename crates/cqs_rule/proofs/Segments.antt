@@ -2,7 +2,6 @@
 use Rattle.std.proofs.Common.{◌≡◌, ℕ, ◌<◌, ◌≤◌, List, [], ◌∷◌, ◌++◌, length, Option, refl, ap, sym, ◌∙◌, subst, ⊎_elim, inl, inr, arith}
 use Rattle.std.proofs.lemmas.List.{append-nil}
 use Rattle.atomic_table.specs.Seated.{TableId}
-use Rattle.cqs_slots.proofs.Lists.{home-prefix}
 use Rattle.cqs_rule_laws.specs.declared.client.ClientWords.{Ghosts}
 use Rattle.cqs_rule_laws.specs.declared.view.Spare.{Spare}
 use Rattle.cqs_rule_laws.specs.declared.view.View.{View}
@@ -10,7 +9,7 @@ use Rattle.cqs_rule_laws.specs.Alone.{TellsAlone}
 use Rattle.cqs_rule_laws.specs.Crew.{Met}
 use Rattle.cqs_rule_laws.specs.Facts.{is_owing}
 use Rattle.cqs_rule_laws.specs.Inside.{IsInside}
-use Rattle.cqs_rule_laws.specs.Layout.{slots_for, words_for}
+use Rattle.cqs_rule_laws.specs.Layout.{words_for}
 use Rattle.cqs_rule_laws.specs.Lists.{Has}
 use Rattle.cqs_rule_laws.specs.Object.{Object, Primitive}
 use Rattle.cqs_rule_laws.specs.Saw.{IsLive}
@@ -22,13 +21,14 @@ use Rattle.cqs_rule_laws.proofs.Spares.{slots-append}
 use Rattle.cqs_words.specs.declared.segment.TailWord.{TailWord}
 use Rattle.cqs_segment.specs.Extends.{IsKept}
 use Rattle.cqs_segment.specs.Walks.{but_last, EndsWith, IsWalker, Left}
-use Rattle.cqs_segment.proofs.Walks.{and-then, duties-left, spares-left}
+use Rattle.cqs_segment.proofs.Walks.{and-then, duties-left, longer, spares-left}
 use Rattle.cqs_rule.specs.declared.queue.Pass.{Pass}
 use Rattle.cqs_rule.specs.declared.queue.Queue.{Queue}
 use Rattle.cqs_rule.specs.declared.queue.spares.Spares.{Spares}
 use Rattle.cqs_rule.specs.Passes.{IsOf, pass_view}
 use Rattle.cqs_rule.specs.Seats.{facts_met}
 use Rattle.cqs_rule.specs.Spares.{HasSpare, spare_list}
+use Rattle.cqs_rule.proofs.Homes.{goes-left, keeps-homes}
 use Rattle.cqs_rule.proofs.Moved.{Keeps}
 
 pub many-slots : (l : List Spare) → length (slots_of l) ≡ length l
@@ -71,7 +71,7 @@ module _ {E S : Type 0} (v w : View E S) (heads : List (ℕ × ℕ)) (spares : L
     once = i.once;
     few = i.few;
     payload = i.payload;
-    flat = λ s low. home-prefix v.segments.homes w.segments.homes s s left.segments.homes (i.flat s low);
+    made = let more = longer v w left.segments in let enough = i.made in omega arith;
   })
 
   pub live-left : (object : Object E) → IsLive object v → IsLive object w
@@ -111,40 +111,43 @@ module _ {E S : Type 0} (v w : View E S) (heads : List (ℕ × ℕ)) (spares : L
       })
 
 module _ {C S E : Type 0} {g : Ghosts C S E} where
+  -- the slots of its table
+  pub all-slots : (q : Queue C S E) (p : Pass C S E g) → IsOf q p → q.segment_slots ≡ (pass_view p).slots
+  all-slots q p b =
+      let mine = p.slots_are ∙ ap (λ (t : TableId). t.words) b.table in
+      let theirs = q.slots_are in omega arith
+
   -- a pass of the queue may walk over its slots
   pub walks : (q : Queue C S E) (p : Pass C S E g) → IsOf q p → IsWalker q.table.shared.table_id.words (pass_view p)
   walks q p b = record {
     one = p.live.0;
-    wide = sym (p.cells_are ∙ ap (λ (t : TableId). t.words) b.table);
-    few = p.few_cells;
+    wide = sym (p.slots_are ∙ ap (λ (t : TableId). t.words) b.table);
+    few = let same = all-slots q p b in let enough = q.few_slots in omega arith;
   }
-
-  pub all-slots : (q : Queue C S E) (p : Pass C S E g) → IsOf q p → q.segment_slots ≡ slots_for (pass_view p).cells
-  all-slots q p b =
-      let mine = p.cells_are ∙ ap (λ (t : TableId). t.words) b.table in
-      let theirs = q.slots_are in omega arith
 
   -- what the pass keeps
   pub keeps-left : (p : Pass C S E g) (w : View E S) (heads : List (ℕ × ℕ)) (spares : List Spare) (kept : Spares)
-      → LeftBy heads spares (pass_view p).facts.duties (pass_view p) w → HasSpare spares (pass_view p).cells kept
+      → LeftBy heads spares (pass_view p).facts.duties (pass_view p) w → HasSpare spares (pass_view p).slots kept
       → (items : List (ℕ × Option S)) (t : TableId) → items ≡ p.seat.me.1 → t ≡ p.seat.table_id
-      → Keeps w items t.words p.number p.held p.further p.owes p.waits p.ticket kept
+      → Keeps w items t.words p.number p.held p.further p.owes p.waits p.ticket kept p.homes
   keeps-left p w heads spares kept left has items t none table =
       let is = left.is in record {
         live = (ap (λ (z : View E S). z.weight) is ∙ p.live.0, ap length none ∙ p.live.1);
         number_is = ap (λ (z : View E S). z.number) is ∙ p.number_is;
         held_is = ap (λ (z : View E S). z.facts.has.held) is ∙ p.held_is;
         further_is = ap (λ (z : View E S). z.facts.has.further) is ∙ p.further_is;
-        spares_are = subst (λ (z : View E S). HasSpare z.facts.spare_slots z.cells kept) (sym is)
+        spares_are = subst (λ (z : View E S). HasSpare z.facts.spare_slots z.slots kept) (sym is)
             (record { are = has.are; low = has.low });
+        homes_are = keeps-homes (pass_view p) w
+            (goes-left (pass_view p) w heads spares (pass_view p).facts.duties left) p.homes p.homes_are;
         counted = ap (λ (z : View E S). z.facts.duties) is ∙ p.counted;
         retired = ap (λ (z : View E S). z.facts.to_retire) is ∙ p.retired;
         shut = ap (λ (z : View E S). z.facts.open_slot) is ∙ p.shut;
         owes_is = ap (λ (z : View E S). is_owing z.facts.doing) is ∙ p.owes_is;
         waits_are = ap (λ (z : View E S). length z.facts.waits) is ∙ p.waits_are;
         ticket_is = λ k e. p.ticket_is k (sym (ap (λ (z : View E S). z.facts.doing) is) ∙ e);
-        cells_are = ap (λ (z : View E S). words_for z.cells) is ∙
-            (p.cells_are ∙ ap (λ (u : TableId). u.words) (sym table));
+        slots_are = ap (λ (z : View E S). words_for z.slots) is ∙
+            (p.slots_are ∙ ap (λ (u : TableId). u.words) (sym table));
         inside = inside-left (pass_view p) w heads spares (pass_view p).facts.duties left p.inside;
         few_cells = subst (λ k. k < 2147483648) (sym (ap (λ (z : View E S). z.cells) is)) p.few_cells;
       }
@@ -167,21 +170,21 @@ module _ {C S E : Type 0} {g : Ghosts C S E} where
       }
 
 -- one slot more is spare
-pub has-more : (spares : List Spare) (cells x : ℕ) (kept more : Spares) → HasSpare spares cells kept
-    → x < slots_for cells → spare_list more ≡ spare_list kept ++ x ∷ [] → HasSpare (spares ++ claimed_slot x ∷ [])
-    cells more
-has-more spares cells x kept more has below is = record {
+pub has-more : (spares : List Spare) (slots x : ℕ) (kept more : Spares) → HasSpare spares slots kept
+    → x < slots → spare_list more ≡ spare_list kept ++ x ∷ [] → HasSpare (spares ++ claimed_slot x ∷ [])
+    slots more
+has-more spares slots x kept more has below is = record {
   are = slots-append spares (claimed_slot x ∷ []) ∙ (ap (λ l. l ++ x ∷ []) has.are ∙ sym is);
   low = λ y h. ⊎_elim (has.low y)
-      (λ q. ⊎_elim (λ (e : y ≡ x). subst (λ z. z < slots_for cells) (sym e) below) (λ z. absurd z) q)
+      (λ q. ⊎_elim (λ (e : y ≡ x). subst (λ z. z < slots) (sym e) below) (λ z. absurd z) q)
       (has_append y (spare_list kept) (x ∷ []) (subst (Has y) is h));
 }
 
 -- the last one is none any more
-pub has-less : (spares : List Spare) (cells x : ℕ) (kept fewer : Spares) → HasSpare spares cells kept
+pub has-less : (spares : List Spare) (slots x : ℕ) (kept fewer : Spares) → HasSpare spares slots kept
     → spare_list kept ≡ spare_list fewer ++ x ∷ []
-    → EndsWith spares x × (x < slots_for cells) × HasSpare (but_last spares) cells fewer
-has-less spares cells x kept fewer has is =
+    → EndsWith spares x × (x < slots) × HasSpare (but_last spares) slots fewer
+has-less spares slots x kept fewer has is =
     let l = last-spare spares (spare_list fewer) x (has.are ∙ is) in (
       l.0,
       has.low x (subst (Has x) (sym is) (has_right x (spare_list fewer) (x ∷ []) (inl refl))),
@@ -192,12 +195,12 @@ has-less spares cells x kept fewer has is =
     )
 
 -- it stays spare, reset as far as this
-pub has-still : (spares : List Spare) (cells x after done : ℕ) (kept fewer : Spares) → HasSpare spares cells kept
+pub has-still : (spares : List Spare) (slots x after done : ℕ) (kept fewer : Spares) → HasSpare spares slots kept
     → spare_list kept ≡ spare_list fewer ++ x ∷ []
-    → HasSpare (but_last spares ++ reset_slot x after done ∷ []) cells kept
-has-still spares cells x after done kept fewer has is = record {
+    → HasSpare (but_last spares ++ reset_slot x after done ∷ []) slots kept
+has-still spares slots x after done kept fewer has is = record {
   are = slots-append (but_last spares) (reset_slot x after done ∷ [])
-      ∙ (ap (λ l. l ++ x ∷ []) (has-less spares cells x kept fewer has is).2.are ∙ sym is);
+      ∙ (ap (λ l. l ++ x ∷ []) (has-less spares slots x kept fewer has is).2.are ∙ sym is);
   low = has.low;
 }
 

@@ -1,7 +1,8 @@
 -- What a step on a cell leaves, after which its pass counts the cell if it settled it.
-use Rattle.std.specs.Prelude.{◌≡◌, ℕ, ◌≤◌, Bool, true, false, List, [], ◌++◌, length}
+use Rattle.std.specs.Prelude.{◌≡◌, ◌⊎◌, ℕ, ◌≤◌, Bool, true, false, List, [], ◌∷◌, ◌++◌, length}
 use Rattle.cqs_rule_laws.specs.declared.view.Facts.{Facts}
 use Rattle.cqs_rule_laws.specs.declared.view.View.{View}
+use Rattle.cqs_rule_laws.specs.Lists.{Has}
 use Rattle.cqs_rule_laws.specs.Loads.{LoadStep, counts, watches, polls, cancels, meets, misses, Loaded}
 use Rattle.cqs_rule_laws.specs.Object.{Object, Primitive}
 use Rattle.cqs_rule_laws.specs.SegmentSteps.{LeftBy}
@@ -24,11 +25,13 @@ counted_after settles heads f =
 
 module _ {E S : Type 0} where
   -- The cells that the pass had to count are counted; for each of them at most one head was found,
-  -- as its segment was to leave. Nothing else that the pass knows has changed, but that it has seen
-  -- more of the segments. A pass that had no cell to count knows just what it knew.
+  -- and only where all cells of its segment are counted, so that the segment was to leave. Nothing
+  -- else that the pass knows has changed, but that it has seen more of the segments. A pass that
+  -- had no cell to count knows just what it knew.
   pub record Counted (v w : View E S) : Type 0 where
     pub heads : List (ℕ × ℕ)
     pub few : length heads ≤ length v.facts.duties
+    pub full : (s : ℕ) → v.facts.duties ≡ s ∷ [] → (heads ≡ []) ⊎ Has s w.segments.full
     pub left : LeftBy heads v.facts.spare_slots [] v w
     pub none : v.facts.duties ≡ [] → w ≡ v
 

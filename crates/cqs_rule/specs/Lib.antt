@@ -6,5 +6,6 @@ pub mod Waits
 pub mod Owed
 pub mod Histories
 pub mod Spares
+pub mod Homes
 pub mod Segments
 pub mod Counting

@@ -1,5 +1,5 @@
 -- What contracts see of a queue and of a pass.
-use Rattle.std.specs.Prelude.{◌≡◌, ℕ, ◌<◌}
+use Rattle.std.specs.Prelude.{◌≡◌, ℕ, ◌+◌, ◌/◌, ◌<◌}
 use Rattle.cqs_rule_laws.specs.declared.client.ClientWords.{Ghosts}
 use Rattle.cqs_rule_laws.specs.declared.config.CancelMode.{CancelMode}
 use Rattle.cqs_rule_laws.specs.declared.config.Place.{Place}
@@ -9,6 +9,10 @@ use Rattle.cqs_rule_laws.specs.Ruled.{cell_count}
 use Rattle.cqs_rule_laws.specs.Saw.{IsLive}
 use Rattle.cqs_rule.specs.declared.queue.Pass.{Pass}
 use Rattle.cqs_rule.specs.declared.queue.Queue.{Queue}
+
+-- how many segments so many cells fill, with one to spare
+abbrev pub segments_for : ℕ → ℕ
+segments_for cells = cells / 32 + 1
 
 module _ {C S E : Type 0} where
   -- the client that the queue was made with

@@ -4,7 +4,6 @@ use Rattle.cqs_words.specs.declared.segment.TailWord.{TailWord}
 use Rattle.cqs_rule_laws.specs.declared.client.ClientWords.{Ghosts}
 use Rattle.cqs_rule_laws.specs.declared.view.Spare.{Spare}
 use Rattle.cqs_rule_laws.specs.declared.view.View.{View}
-use Rattle.cqs_rule_laws.specs.Layout.{slots_for}
 use Rattle.cqs_rule_laws.specs.SegmentSteps.{claimed_slot, LeftBy}
 use Rattle.cqs_segment.specs.declared.extending.Extended.{Extended}
 use Rattle.cqs_segment.specs.declared.extending.Extended.TheVariants.{Made, Seen}
@@ -24,7 +23,7 @@ ExtendsAlone after x (Seen tail) v w = ExtendsTo after x (Seen tail) v w
 module _ {C S E : Type 0} {g : Ghosts C S E} where
   -- how many slots for segments the pass's table has
   abbrev pub slot_count : Pass C S E g → ℕ
-  slot_count p = slots_for (pass_view p).cells
+  slot_count p = (pass_view p).slots
 
   -- those that it has spare
   abbrev pub spares_of : Pass C S E g → List Spare

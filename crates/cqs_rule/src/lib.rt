@@ -36,4 +36,5 @@ pub use cqs_rule_laws::{
     Rule, SLOT_STRIDE, SUSPENDS_WORD, Serves, Settles, SettlesOwing, Shown, Sighting, Silent,
     Spare, StartsLeaving, Takes, Unparked, View, Waits, Watches,
 };
+pub use cqs_segment::{CELLS, Found as FoundSegment};
 pub use queue::{Pass, Queue, Under, Wait};

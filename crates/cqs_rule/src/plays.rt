@@ -5,6 +5,7 @@ ghost use Rattle.cqs_rule_laws.specs.Counts.{drew};
 ghost use Rattle.cqs_rule_laws.specs.Events.{moved_by, exchanged_by, in_any_case};
 ghost use Rattle.cqs_rule_laws.specs.Exchanges.{crossed};
 ghost use Rattle.cqs_rule_laws.specs.Loads.{loaded_by};
+ghost use Rattle.cqs_rule_laws.specs.PassedOver.{passed_over};
 ghost use Rattle.cqs_rule_laws.specs.SlotSteps.{took_out, put_back, filled, given_by, put_by};
 
 use crate::queue::Numbered;
@@ -19,6 +20,15 @@ pub(crate) struct Loading<C, L> {
 
 impl<C: ClientWords, L: Load> Telling<C> for Loading<C, L> {
     ghost told = { loaded_by C.object C.primitive L.load };
+}
+
+/// A cell of a later segment is loaded, by a resume that passes over its number.
+pub(crate) struct PassingOver<C> {
+    of: PhantomData<C>,
+}
+
+impl<C: ClientWords> Telling<C> for PassingOver<C> {
+    ghost told = { passed_over C.object C.primitive };
 }
 
 /// A number is drawn from a counter.

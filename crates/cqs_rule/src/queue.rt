@@ -5,14 +5,17 @@ ghost use Rattle.cqs_rule_laws.specs.Inside.{IsInside};
 ghost use Rattle.cqs_rule_laws.specs.Layout.{words_for};
 ghost use Rattle.cqs_rule_laws.specs.Loads.{IsTicketOf};
 ghost use Rattle.cqs_rule_laws.specs.Facts.{is_owing};
+ghost use Rattle.cqs_rule.specs.Homes.{KnowsHomes};
 ghost use Rattle.cqs_rule.specs.Spares.{HasSpare};
 ghost use Rattle.cqs_slots.specs.Layout.{slot_words};
 
 mod counting;
 mod histories;
+mod homes;
 mod opening;
 mod parked;
 mod parking;
+mod passing;
 mod putting;
 mod readers;
 mod seats;
@@ -25,6 +28,7 @@ mod words;
 
 use atomic_table::{Seat, Table};
 use cqs_rule_laws::{CancelMode, ClientWords, Key, Rule, View};
+use homes::Homes;
 use parked::Parked;
 pub(crate) use slots::Numbered;
 use spares::Spares;
@@ -44,6 +48,7 @@ pub struct Queue<C: ClientWords> {
     ghost few_passes: { passes ≤ 32 },
     ghost limit_is: { table.shared.key.limit ≡ limit },
     ghost slots_are: { table.shared.table_id.words ≡ slot_words segment_slots },
+    ghost few_slots: { segment_slots ≤ 65536 },
 }
 
 /// What a caller makes steps with. Contracts see what it has seen of the queue, and what it is
@@ -59,11 +64,13 @@ pub struct Pass<C: ClientWords> {
     // The last number that it drew: that of its ticket, while it has one.
     ticket: u64,
     spares: Spares,
+    homes: Homes,
     pub ghost live: { (seat.me.0.weight ≡ 1) × (length seat.me.1 ≡ 0) },
     pub ghost number_is: { seat.me.0.number ≡ number },
     pub ghost held_is: { seat.me.0.facts.has.held ≡ held },
     pub ghost further_is: { seat.me.0.facts.has.further ≡ further },
-    pub ghost spares_are: { HasSpare seat.me.0.facts.spare_slots seat.me.0.cells spares },
+    pub ghost spares_are: { HasSpare seat.me.0.facts.spare_slots seat.me.0.slots spares },
+    pub ghost homes_are: { KnowsHomes seat.me.0 homes },
     // Between any two of its calls each cell that it settled is counted, and it is to retire no
     // segment.
     pub ghost counted: { seat.me.0.facts.duties ≡ [] },
@@ -72,7 +79,7 @@ pub struct Pass<C: ClientWords> {
     pub ghost owes_is: { is_owing seat.me.0.facts.doing ≡ owes },
     pub ghost waits_are: { length seat.me.0.facts.waits ≡ waits },
     pub ghost ticket_is: { IsTicketOf seat.me.0.facts.doing ticket },
-    pub ghost cells_are: { words_for seat.me.0.cells ≡ seat.table_id.words },
+    pub ghost slots_are: { words_for seat.me.0.slots ≡ seat.table_id.words },
     pub ghost inside: { IsInside seat.me.0 },
     pub ghost few_cells: { seat.me.0.cells < 2 ^ 31 },
 }

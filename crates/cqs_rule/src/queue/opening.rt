@@ -4,14 +4,16 @@ ghost use Rattle.std.specs.Prelude.{◌≡◌, ◌≤◌, false, IfOk, IsErrOf};
 ghost use mathlib.Core.Logic.{◌↔◌};
 ghost use Rattle.cqs_rule_laws.specs.Configured.{is_config};
 ghost use Rattle.cqs_rule_laws.specs.Manner.{mode_for};
-ghost use Rattle.cqs_rule.specs.Passes.{pass_view, client_of, passes_of, limit_of, mode_of, slots_of, IsOf};
+ghost use Rattle.cqs_rule.specs.Passes.{pass_view, client_of, passes_of, limit_of, mode_of, segments_for, slots_of, IsOf};
 ghost use Rattle.cqs_rule_laws.specs.Ruled.{cell_count};
 ghost use Rattle.cqs_rule_laws.specs.Views.{first_view};
 
+use crate::queue::homes::Homes;
 use crate::queue::parked::Parked;
 use crate::queue::spares::Spares;
 use crate::queue::{Pass, Queue};
 use cqs_rule_laws::{CancelMode, ClientWords, Config, MakeError, open_table};
+use cqs_segment::CELLS;
 use std::alloc::Global;
 
 impl<C: ClientWords> Queue<C> {
@@ -34,6 +36,8 @@ impl<C: ClientWords> Queue<C> {
         ensures pass { IfOk result (λ made. pass_view made.1
             ≡ first_view config.passes config.limit
             (cell_count config.passes config.limit (C.primitive client).values)
+            (segments_for (cell_count config.passes config.limit (C.primitive client).values))
+            (segments_for (cell_count config.passes config.limit (C.primitive client).values))
             (C.primitive client).opening (C.primitive client).held) }
         ensures slots { IfOk result (λ made. slots_of made.0 ≡ C.value_slots client) }
     {
@@ -42,12 +46,14 @@ impl<C: ClientWords> Queue<C> {
         }
         let held = client.held();
         let cells = config.limit + u64::from(config.passes) + u64::from(client.values());
-        let (table, seat) = open_table(alloc, &config, client)?;
+        // As long as no slot is used again, each segment that is ever wanted is made at first.
+        let segment_slots = (cells / CELLS) as u32 + 1;
+        let (table, seat) = open_table(alloc, &config, segment_slots, segment_slots, client)?;
         let queue = Queue {
             table,
             passes: config.passes,
             limit: config.limit,
-            segment_slots: (cells / 32) as u32 + 1,
+            segment_slots,
             mode,
             parked: Parked::new(),
         };
@@ -62,6 +68,7 @@ impl<C: ClientWords> Queue<C> {
                 waits: 0,
                 ticket: 0,
                 spares: Spares::Nothing,
+                homes: Homes::none(),
             },
         ))
     }

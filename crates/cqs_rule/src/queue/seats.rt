@@ -13,6 +13,7 @@ ghost use Rattle.cqs_rule.specs.Seats.{IsBusy, HasLookedOn, HasGiven, HasMet};
 ghost use Rattle.cqs_rule_laws.specs.Views.{made_in, live_in};
 
 use crate::plays::{Count, CountAfter, Cut, Gather, Gift, Hearing, Make, Meet, Noting};
+use crate::queue::homes::Homes;
 use crate::queue::spares::Spares;
 use crate::queue::{Pass, Queue};
 use atomic_table::Seat;
@@ -66,7 +67,7 @@ impl<C: ClientWords> Queue<C> {
     ) -> u64
         requires table { seat.old.table_id ≡ self.now.table.shared.table_id }
         requires live { seat.old.me.0.weight ≡ 1 }
-        requires cells { words_for seat.old.me.0.cells ≡ seat.old.table_id.words }
+        requires cells { words_for seat.old.me.0.slots ≡ seat.old.table_id.words }
         requires room { made_in saw < passes_of self.now }
         requires named { gives ≡ G.gives }
         requires shut { seat.old.me.0.facts.open_slot ≡ None }
@@ -121,6 +122,7 @@ impl<C: ClientWords> Queue<C> {
                     waits: 0,
                     ticket: 0,
                     spares: Spares::Nothing,
+                    homes: Homes::none(),
                 });
             }
             saw = found;

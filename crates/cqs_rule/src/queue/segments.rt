@@ -2,11 +2,13 @@
 
 ghost use Rattle.std.specs.Prelude.{◌≡◌, ◌+◌, ◌*◌, ◌<◌, ◌≤◌, ◌^◌, [], length, OnErr, OnOk};
 ghost use mathlib.Core.Logic.{◌↔◌};
-ghost use Rattle.cqs_words.specs.Segment.{packed_tail};
+ghost use Rattle.cqs_words.specs.Segment.{TailFits, packed_tail};
 ghost use Rattle.cqs_slots.specs.Slots.{IsHome};
+ghost use Rattle.cqs_rule_laws.specs.SegmentSteps.{OwnStand};
 ghost use Rattle.cqs_slots.specs.Told.{TailFound};
 ghost use Rattle.cqs_segment.specs.Finds.{Finds, Retires};
 ghost use Rattle.cqs_segment.specs.Slots.{Confirms, SawAllTaken};
+ghost use Rattle.cqs_segment.specs.Walks.{LookedAt};
 ghost use Rattle.cqs_rule.specs.Passes.{pass_view, IsOf};
 ghost use Rattle.cqs_rule.specs.Segments.{slot_count, spares_of, HasClaimed, HasExtended, HasGivenBack, HasLeft, HasPassed, HasStayed};
 
@@ -69,6 +71,7 @@ impl<C: ClientWords> Queue<C> {
         ensures belongs { IsOf self.now pass.new }
         ensures found { TailFound (slot_count pass.new) (packed_tail result)
             (pass_view pass.new).segments }
+        ensures fits { TailFits result }
         ensures stayed { HasStayed pass.old pass.new }
     {
         cqs_segment::last::<C>(&self.table.shared, &mut pass.seat)
@@ -80,7 +83,8 @@ impl<C: ClientWords> Queue<C> {
         requires small { id < 2 ^ 36 }
         ensures belongs { IsOf self.now pass.new }
         ensures finds { Finds id result (pass_view pass.new) }
-        ensures passed { HasPassed pass.old pass.new }
+        ensures own { OwnStand (pass_view pass.new) (pass_view pass.new) }
+        ensures looked { LookedAt (slot_count pass.old) (pass_view pass.old) (pass_view pass.new) }
     {
         cqs_segment::find::<C>(&self.table.shared, &mut pass.seat, self.segment_slots, id)
     }

@@ -7,8 +7,8 @@ use Rattle.cqs_cell.proofs.transitions.serve.Goals as goal
 pub wake_cell-requires : goal.wake_cell-requires
 wake_cell-requires g c =
     let p = c.args.pass.now in
-    let words : words_for p.seat.me.0.cells ≡ c.args.queue.now.table.shared.table_id.words =
-    p.cells_are ∙ ap (λ t. t.words) c.requires.belongs.table in
+    let words : words_for p.seat.me.0.slots ≡ c.args.queue.now.table.shared.table_id.words =
+    p.slots_are ∙ ap (λ t. t.words) c.requires.belongs.table in
     record {
       inside = subst (λ z. c.args.at.word < z) words
           (place-low _ c.args.at.index c.args.at.word c.requires.place);

@@ -4,6 +4,7 @@ use Rattle.cqs_rule_laws.specs.Kinds.{change_of, further_then}
 use Rattle.cqs_rule_laws.specs.Layout.{words_for}
 use Rattle.cqs_rule_laws.proofs.Counters.{count, counter-low}
 use Rattle.cqs_rule.proofs.Numbers.{draws}
+use Rattle.cqs_rule.proofs.Homes.{same-homes}
 use Rattle.cqs_rule.proofs.Spared.{same-spares}
 use Rattle.cqs_rule.proofs.queue.Queue.add_table.Goals as goal
 
@@ -39,14 +40,15 @@ invariant_of-pass g c =
       further_is = carries.further
           ∙ (ap (further_then (change_of s)) p.further_is
           ∙ (ap (λ z. further_then z p.further) (sym is) ∙ sym c.further_after-pass.ensures));
-      spares_are = same-spares _ _ _ _ p.spares carries.spares same.cells p.spares_are;
+      spares_are = same-spares _ _ _ _ p.spares carries.spares same.slots p.spares_are;
+      homes_are = same-homes _ _ same p.homes p.homes_are;
       counted = counts.duties ∙ p.counted;
       retired = counts.to_retire ∙ p.retired;
       shut = carries.open_slot ∙ p.shut;
       owes_is = carries.owes ∙ ap (λ z. z.owes) (sym is);
       waits_are = counts.waits ∙ p.waits_are;
       ticket_is = counts.ticket;
-      cells_are = ap words_for same.cells ∙ (p.cells_are ∙ ap (λ t. t.words) (sym e.table));
+      slots_are = ap words_for same.slots ∙ (p.slots_are ∙ ap (λ t. t.words) (sym e.table));
       inside = e.told.2.inside;
       few_cells = subst (λ n. n < 2147483648) (sym same.cells) p.few_cells;
     }

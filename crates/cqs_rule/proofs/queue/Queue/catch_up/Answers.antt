@@ -6,7 +6,7 @@ use Rattle.cqs_rule_laws.specs.Views.{as_before}
 use Rattle.cqs_rule_laws.proofs.CrewLooks.{counts-after}
 use Rattle.cqs_rule_laws.proofs.Notes.{notes, takes-note, one-history}
 use Rattle.cqs_rule_laws.proofs.Tries.{sole-tells}
-use Rattle.cqs_rule.proofs.Looked.{crew-inside}
+use Rattle.cqs_rule.proofs.Looked.{crew-inside, keeps-looked}
 use Rattle.cqs_rule.proofs.queue.Queue.catch_up.Goals as goal
 
 pub split_seat-note-requires : goal.split_seat-note-requires
@@ -53,3 +53,14 @@ returns-clause-one_history g c =
     let saw : Saw g.C.ClientWords.object p p.facts [] (as_before p w) = search rules in
     let all : IsPrefix o.seen w.seen = search rules in
     one-history g.C.ClientWords.object p o w p.facts saw all
+
+pub invariant_of-pass : goal.invariant_of-pass
+invariant_of-pass g c =
+    let p = c.args.pass.now in
+    let v = p.seat.me.0 in
+    let e = c.load_at.ensures in
+    let j = c.join_seat.ensures in
+    let seat = c.load_at.new.seat in
+    let saw : Saw g.C.ClientWords.object v v.facts [] (as_before v seat.me.0) = search rules in
+    keeps-looked p seat.me.0 saw e.told.0.0.weight e.told.0.2.inside seat.me.1 seat.table_id
+    (e.told.0.1 ∙ ap (λ z. z.1) j.2) (e.table ∙ j.0)

@@ -24,7 +24,7 @@ invariant_of-pass g c =
     let low = claimed.0 in
     let all = all-slots c.args.self.now p c.requires.belongs in
     keeps-left p seat.me.0 claimed.1.0 _ c.with-pass.result claimed.1.1
-    (has-more v.facts.spare_slots v.cells c.in-Some.slot p.spares c.with-pass.result p.spares_are (omega arith)
+    (has-more v.facts.spare_slots v.slots c.in-Some.slot p.spares c.with-pass.result p.spares_are (omega arith)
     c.with-pass.ensures)
     seat.me.1 seat.table_id c.claim.ensures.bare c.claim.ensures.table
 

@@ -38,7 +38,8 @@ returns-then-from-eq-CELLS-clause-counted g c =
     let n = c.count_settled-counted.ensures in
     counted-last c.args.seat.now.me.0 c.count_settled-counted.new.seat.me.0 c.retire.new.seat.me.0 _
     (c.args.number / 32) c.retire.result c.requires.one c.requires.none
-    (n.counted.all (all-counted c.if-from-eq-CELLS.true c.from.ensures)) c.retire.ensures.retires
+    (n.counted.all (all-counted c.if-from-eq-CELLS.true c.from.ensures))
+    (n.all.0 (all-counted c.if-from-eq-CELLS.true c.from.ensures)) c.retire.ensures.retires
 
 pub returns-else-from-eq-CELLS-clause-counted : goal.returns-else-from-eq-CELLS-clause-counted
 returns-else-from-eq-CELLS-clause-counted g c =

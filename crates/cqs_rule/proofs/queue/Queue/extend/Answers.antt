@@ -15,14 +15,14 @@ pub extend-extended-requires-clause-low : goal.extend-extended-requires-clause-l
 extend-extended-requires-clause-low g c =
     let p = c.args.pass.now in
     let v = p.seat.me.0 in
-    (has-less v.facts.spare_slots v.cells c.in-Some.slot p.spares c.in-Some.others p.spares_are
+    (has-less v.facts.spare_slots v.slots c.in-Some.slot p.spares c.in-Some.others p.spares_are
     c.in-Some.ensures.some).1
 
 pub extend-extended-requires-clause-last : goal.extend-extended-requires-clause-last
 extend-extended-requires-clause-last g c =
     let p = c.args.pass.now in
     let v = p.seat.me.0 in
-    (has-less v.facts.spare_slots v.cells c.in-Some.slot p.spares c.in-Some.others p.spares_are
+    (has-less v.facts.spare_slots v.slots c.in-Some.slot p.spares c.in-Some.others p.spares_are
     c.in-Some.ensures.some).0
 
 pub retire-requires-clause-walker : goal.retire-requires-clause-walker
@@ -66,7 +66,7 @@ invariant_of-pass g c =
     c.retire.ensures.retires in
     let seat = c.retire.new.seat in
     keeps-left p w alone.2.0 _ c.in-Some.others alone.2.1
-    (has-less v.facts.spare_slots v.cells c.in-Some.slot p.spares c.in-Some.others p.spares_are
+    (has-less v.facts.spare_slots v.slots c.in-Some.slot p.spares c.in-Some.others p.spares_are
     c.in-Some.ensures.some).2
     seat.me.1 seat.table_id (c.retire.ensures.bare ∙ c.extend-extended.ensures.bare)
     (c.retire.ensures.table ∙ c.extend-extended.ensures.table)
@@ -81,7 +81,7 @@ invariant_of-pass-in_default g c =
     let kept = kept-left c.args.after c.in_default.field-0 c.in-Some.slot v w seen.2 in
     let seat = c.extend-extended.new.seat in
     keeps-left p w kept.2.0 _ p.spares kept.2.1
-    (has-still v.facts.spare_slots v.cells c.in-Some.slot kept.0 kept.1 p.spares c.in-Some.others p.spares_are
+    (has-still v.facts.spare_slots v.slots c.in-Some.slot kept.0 kept.1 p.spares c.in-Some.others p.spares_are
     c.in-Some.ensures.some)
     seat.me.1 seat.table_id c.extend-extended.ensures.bare c.extend-extended.ensures.table
 
@@ -127,7 +127,7 @@ returns-in-Made-clause-extended g c =
     let alone = extended-alone c.args.after c.in-Made.field-0 c.in-Some.slot c.retire.result v u w p.retired made
     c.retire.ensures.retires in (
       c.in-Some.slot,
-      (has-less v.facts.spare_slots v.cells c.in-Some.slot p.spares c.in-Some.others p.spares_are
+      (has-less v.facts.spare_slots v.slots c.in-Some.slot p.spares c.in-Some.others p.spares_are
           c.in-Some.ensures.some).0,
       subst (λ a. ExtendsAlone c.args.after c.in-Some.slot a v w) (sym c.in-Made.is) alone,
     )
@@ -140,7 +140,7 @@ returns-in_default-clause-extended g c =
     let seen : ExtendsTo c.args.after c.in-Some.slot (Seen c.in_default.field-0) v w =
     subst (λ a. ExtendsTo c.args.after c.in-Some.slot a v w) c.in_default.is c.extend-extended.ensures.extends in (
       c.in-Some.slot,
-      (has-less v.facts.spare_slots v.cells c.in-Some.slot p.spares c.in-Some.others p.spares_are
+      (has-less v.facts.spare_slots v.slots c.in-Some.slot p.spares c.in-Some.others p.spares_are
           c.in-Some.ensures.some).0,
       subst (λ a. ExtendsAlone c.args.after c.in-Some.slot a v w) (sym c.in_default.is) seen,
     )

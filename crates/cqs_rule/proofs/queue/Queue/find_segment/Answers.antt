@@ -13,7 +13,7 @@ invariant_of-pass g c =
     let v = p.seat.me.0 in
     let seat = c.find.new.seat in
     let left = c.find.ensures.looked in
-    keeps-left p seat.me.0 left.0 v.facts.spare_slots p.spares left.1 p.spares_are
+    keeps-left p seat.me.0 left.0 v.facts.spare_slots p.spares left.2 p.spares_are
     seat.me.1 seat.table_id c.find.ensures.bare c.find.ensures.table
 
 pub returns-clause-belongs : goal.returns-clause-belongs
@@ -21,5 +21,5 @@ returns-clause-belongs g c =
     let p = c.args.pass.now in
     let v = p.seat.me.0 in
     let left = c.find.ensures.looked in
-    belongs-left c.args.self.now p _ left.0 v.facts.spare_slots v.facts.duties c.requires.belongs left.1
+    belongs-left c.args.self.now p _ left.0 v.facts.spare_slots v.facts.duties c.requires.belongs left.2
     c.find.ensures.table

@@ -9,14 +9,14 @@ pub give_back-requires-clause-low : goal.give_back-requires-clause-low
 give_back-requires-clause-low g c =
     let p = c.args.pass.now in
     let v = p.seat.me.0 in
-    (has-less v.facts.spare_slots v.cells c.in-Some.slot p.spares c.in-Some.others p.spares_are
+    (has-less v.facts.spare_slots v.slots c.in-Some.slot p.spares c.in-Some.others p.spares_are
     c.in-Some.ensures.some).1
 
 pub give_back-requires-clause-last : goal.give_back-requires-clause-last
 give_back-requires-clause-last g c =
     let p = c.args.pass.now in
     let v = p.seat.me.0 in
-    (has-less v.facts.spare_slots v.cells c.in-Some.slot p.spares c.in-Some.others p.spares_are
+    (has-less v.facts.spare_slots v.slots c.in-Some.slot p.spares c.in-Some.others p.spares_are
     c.in-Some.ensures.some).0
 
 pub invariant_of-pass : goal.invariant_of-pass
@@ -26,7 +26,7 @@ invariant_of-pass g c =
     let seat = c.give_back.new.seat in
     let given = c.give_back.ensures.given in
     keeps-left p seat.me.0 [] _ c.in-Some.others given
-    (has-less v.facts.spare_slots v.cells c.in-Some.slot p.spares c.in-Some.others p.spares_are
+    (has-less v.facts.spare_slots v.slots c.in-Some.slot p.spares c.in-Some.others p.spares_are
     c.in-Some.ensures.some).2
     seat.me.1 seat.table_id c.give_back.ensures.bare c.give_back.ensures.table
 

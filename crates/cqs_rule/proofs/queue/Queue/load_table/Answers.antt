@@ -5,6 +5,7 @@ use Rattle.cqs_rule_laws.specs.declared.loads.Learned.TheVariants.{Nothing, Gran
 use Rattle.cqs_rule_laws.specs.Loads.{CarriesLearned}
 use Rattle.cqs_rule_laws.proofs.CellLoads.{loads, load-low, learns-at}
 use Rattle.cqs_rule.proofs.Counting.{belongs-counted, counted-none, keeps-counted, loaded-leaves, loaded-retires, told-loaded}
+use Rattle.cqs_rule.proofs.Homes.{same-homes}
 use Rattle.cqs_rule.proofs.Spared.{same-spares}
 use Rattle.cqs_rule.proofs.queue.Queue.load_table.Goals as goal
 
@@ -41,7 +42,8 @@ invariant_of-pass g c =
       number_is = same.number ∙ p.number_is;
       held_is = carries.held ∙ p.held_is;
       further_is = carries.further ∙ p.further_is;
-      spares_are = same-spares _ _ _ _ p.spares carries.spares same.cells p.spares_are;
+      spares_are = same-spares _ _ _ _ p.spares carries.spares same.slots p.spares_are;
+      homes_are = same-homes _ _ same p.homes p.homes_are;
       counted = leaves;
       retired = loaded-retires C.object C.primitive g.L.Load.load c.args.word c.load_at-found.result p.seat.me.0 u
           e.told.0 c.requires.load ∙ p.retired;
@@ -49,7 +51,7 @@ invariant_of-pass g c =
       owes_is = carries.owes ∙ p.owes_is;
       waits_are = omega arith;
       ticket_is = λ k t. p.ticket_is k (carries.ticket k t);
-      cells_are = ap words_for same.cells ∙ (p.cells_are ∙ ap (λ t. t.words) (sym e.table));
+      slots_are = ap words_for same.slots ∙ (p.slots_are ∙ ap (λ t. t.words) (sym e.table));
       inside = e.told.2.inside;
       few_cells = subst (λ n. n < 2147483648) (sym same.cells) p.few_cells;
     }
@@ -124,19 +126,21 @@ invariant_of-pass-in-Granted g c =
     let was = p.waits_are in
     let done = c.count_cell.ensures in
     let seat = c.count_cell.new.seat in
-    keeps-counted u seat.me.0 c.load_at-found.new.seat.me.1 seat.me.1 seat.table_id.words _ _ _ _ _ _ p.spares (record {
+    keeps-counted u seat.me.0 c.load_at-found.new.seat.me.1 seat.me.1 seat.table_id.words _ _ _ _ _ _ p.spares
+    p.homes (record {
       live = (same.weight ∙ p.live.0, ap length e.told.1 ∙ p.live.1);
       number_is = same.number ∙ p.number_is;
       held_is = carries.held ∙ (ap C.object.gains.held p.held_is ∙ sym c.held_after_take-pass.ensures);
       further_is = carries.further ∙ p.further_is;
-      spares_are = same-spares _ _ _ _ p.spares carries.spares same.cells p.spares_are;
+      spares_are = same-spares _ _ _ _ p.spares carries.spares same.slots p.spares_are;
+      homes_are = same-homes _ _ same p.homes p.homes_are;
       retired = loaded-retires C.object C.primitive g.L.Load.load c.args.word c.load_at-found.result p.seat.me.0 u
           e.told.0 c.requires.load ∙ p.retired;
       shut = carries.open_slot ∙ p.shut;
       owes_is = carries.owes ∙ p.owes_is;
       waits_are = omega arith;
       ticket_is = λ k t. p.ticket_is k (carries.ticket k t);
-      cells_are = ap words_for same.cells ∙ (p.cells_are ∙ ap (λ t. t.words) (sym (done.table ∙ e.table)));
+      slots_are = ap words_for same.slots ∙ (p.slots_are ∙ ap (λ t. t.words) (sym (done.table ∙ e.table)));
       inside = e.told.2.inside;
       few_cells = subst (λ n. n < 2147483648) (sym same.cells) p.few_cells;
     }) done.counted done.bare
@@ -196,19 +200,21 @@ invariant_of-pass-in-Ended g c =
     let was = p.waits_are in
     let done = c.count_cell-in-Ended.ensures in
     let seat = c.count_cell-in-Ended.new.seat in
-    keeps-counted u seat.me.0 c.load_at-found.new.seat.me.1 seat.me.1 seat.table_id.words _ _ _ _ _ _ p.spares (record {
+    keeps-counted u seat.me.0 c.load_at-found.new.seat.me.1 seat.me.1 seat.table_id.words _ _ _ _ _ _ p.spares
+    p.homes (record {
       live = (same.weight ∙ p.live.0, ap length e.told.1 ∙ p.live.1);
       number_is = same.number ∙ p.number_is;
       held_is = carries.held ∙ p.held_is;
       further_is = carries.further ∙ p.further_is;
-      spares_are = same-spares _ _ _ _ p.spares carries.spares same.cells p.spares_are;
+      spares_are = same-spares _ _ _ _ p.spares carries.spares same.slots p.spares_are;
+      homes_are = same-homes _ _ same p.homes p.homes_are;
       retired = loaded-retires C.object C.primitive g.L.Load.load c.args.word c.load_at-found.result p.seat.me.0 u
           e.told.0 c.requires.load ∙ p.retired;
       shut = carries.open_slot ∙ p.shut;
       owes_is = carries.owes;
       waits_are = omega arith;
       ticket_is = λ k t. p.ticket_is k (carries.ticket k t);
-      cells_are = ap words_for same.cells ∙ (p.cells_are ∙ ap (λ t. t.words) (sym (done.table ∙ e.table)));
+      slots_are = ap words_for same.slots ∙ (p.slots_are ∙ ap (λ t. t.words) (sym (done.table ∙ e.table)));
       inside = e.told.2.inside;
       few_cells = subst (λ n. n < 2147483648) (sym same.cells) p.few_cells;
     }) done.counted done.bare

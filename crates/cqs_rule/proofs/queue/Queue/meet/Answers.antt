@@ -74,13 +74,14 @@ invariant_of-pass g c =
       held_is = search rules;
       further_is = k.further_is;
       spares_are = k.spares_are;
+      homes_are = k.homes_are;
       counted = k.counted;
       retired = k.retired;
       shut = k.shut;
       owes_is = k.owes_is;
       waits_are = k.waits_are;
       ticket_is = k.ticket_is;
-      cells_are = k.cells_are;
+      slots_are = k.slots_are;
       inside = k.inside;
       few_cells = k.few_cells;
     }

@@ -6,6 +6,8 @@ use Rattle.cqs_rule_laws.specs.Facts.{is_owing}
 use Rattle.cqs_rule_laws.specs.Layout.{words_for}
 use Rattle.cqs_rule_laws.specs.Ruled.{cell_count}
 use Rattle.cqs_rule_laws.proofs.Opens.{config-bounds}
+use Rattle.cqs_rule.specs.Homes.{KnowsHomes}
+use Rattle.cqs_rule.proofs.Homes.{no-homes}
 use Rattle.cqs_rule.proofs.Spared.{no-spares}
 use Rattle.cqs_rule.proofs.queue.Queue.new.Goals as goal
 
@@ -27,13 +29,14 @@ invariant_of-result g c =
       held_is = ap (λ z. z.facts.has.held) me ∙ sym c.held-held.ensures;
       further_is = ap (λ z. z.facts.has.further) me;
       spares_are = no-spares _ _ (ap (λ z. z.facts.spare_slots) me);
+      homes_are = subst (KnowsHomes _) (sym c.none.ensures) (no-homes _);
       counted = ap (λ z. z.facts.duties) me;
       retired = ap (λ z. z.facts.to_retire) me;
       shut = ap (λ z. z.facts.open_slot) me;
       owes_is = ap (λ z. is_owing z.facts.doing) me;
       waits_are = ap (λ (z : View _ _). length z.facts.waits) me;
       ticket_is = λ k e. let idle = ap (λ (z : View _ _). z.facts.doing) me in absurd (cc);
-      cells_are = ap (λ (z : View _ _). words_for z.cells) me ∙ sym h.table.2;
+      slots_are = ap (λ (z : View _ _). words_for z.slots) me ∙ sym h.table.2;
       inside = h.seat.1.inside;
       few_cells = subst (λ n. n < 2147483648) (sym (ap (λ z. z.cells) me))
           (few-cells c.args.config p.values good c.requires.few);

@@ -14,7 +14,7 @@ low_half-waiter-requires g c =
 pub park-requires : goal.park-requires
 park-requires g c =
     let p = c.args.pass.now in
-    let words : words_for p.seat.me.0.cells ≡ c.args.self.now.table.shared.table_id.words =
-    p.cells_are ∙ ap (λ t. t.words) c.requires.belongs.table in
+    let words : words_for p.seat.me.0.slots ≡ c.args.self.now.table.shared.table_id.words =
+    p.slots_are ∙ ap (λ t. t.words) c.requires.belongs.table in
     subst (λ z. c.args.wait.now.word < z) words
     (place-low _ c.args.wait.now.number c.args.wait.now.word c.requires.has.place)

@@ -4,6 +4,7 @@ use Rattle.cqs_rule_laws.proofs.CellPlaces.{resumes-inside}
 use Rattle.cqs_rule_laws.proofs.Putting.{MayPut, put}
 use Rattle.cqs_core.specs.QueueSteps.{puts, row_of}
 use Rattle.cqs_rule.proofs.Numbers.{drawn-ticket}
+use Rattle.cqs_rule.proofs.Homes.{same-homes}
 use Rattle.cqs_rule.proofs.Spared.{same-spares}
 use Rattle.cqs_rule.proofs.queue.Queue.put_at.Goals as goal
 
@@ -43,7 +44,8 @@ invariant_of-pass g c =
       number_is = same.number ∙ p.number_is;
       held_is = carries.held ∙ p.held_is;
       further_is = carries.further ∙ p.further_is;
-      spares_are = same-spares _ _ _ _ p.spares carries.spares same.cells p.spares_are;
+      spares_are = same-spares _ _ _ _ p.spares carries.spares same.slots p.spares_are;
+      homes_are = same-homes _ _ same p.homes p.homes_are;
       counted = ap (λ f. f.duties) e.told.0.facts_are ∙ p.counted;
       retired = ap (λ f. f.to_retire) e.told.0.facts_are ∙ p.retired;
       shut = carries.open_slot ∙ p.shut;
@@ -52,7 +54,7 @@ invariant_of-pass g c =
       ticket_is = drawn-ticket g.C.ClientWords.object puts (row_of puts) g.K.Numbered.slot p.seat.me.0
           c.add_at-found.result
           c.add_at-found.new.seat.me.0 e.told.0;
-      cells_are = ap words_for same.cells ∙ (p.cells_are ∙ ap (λ t. t.words) (sym e.table));
+      slots_are = ap words_for same.slots ∙ (p.slots_are ∙ ap (λ t. t.words) (sym e.table));
       inside = e.told.2.inside;
       few_cells = subst (λ n. n < 2147483648) (sym same.cells) p.few_cells;
     }

@@ -8,6 +8,7 @@ use Rattle.cqs_rule_laws.proofs.CrewSplits.{splits}
 use Rattle.cqs_rule_laws.proofs.Tries.{sole-tells, tries-first, tries-again, cut-leaves, cut-begins, le-by}
 use Rattle.cqs_rule.proofs.Halved.{room-left, gives-few, gives-held, keeps-cut, keeps-begun}
 use Rattle.cqs_rule.proofs.Looked.{crew-inside, keeps-looked}
+use Rattle.cqs_rule.specs.Homes.{KnowsHomes}
 use Rattle.cqs_rule.proofs.queue.Queue.split.Goals as goal
 
 pub load_at-saw-requires-clause-table : goal.load_at-saw-requires-clause-table
@@ -58,7 +59,7 @@ pub make-found-requires-clause-live : goal.make-found-requires-clause-live
 make-found-requires-clause-live g c = c.loop-pass.pass.live.0
 
 pub make-found-requires-clause-cells : goal.make-found-requires-clause-cells
-make-found-requires-clause-cells g c = c.loop-pass.pass.cells_are
+make-found-requires-clause-cells g c = c.loop-pass.pass.slots_are
 
 pub make-found-requires-clause-shut : goal.make-found-requires-clause-shut
 make-found-requires-clause-shut g c = c.loop-pass.pass.shut
@@ -118,13 +119,14 @@ invariant_of-result g c =
       held_is = k.held_is;
       further_is = k.further_is;
       spares_are = k.spares_are;
+      homes_are = subst (KnowsHomes _) (sym c.none.ensures) k.homes_are;
       counted = k.counted;
       retired = k.retired;
       shut = k.shut;
       owes_is = k.owes_is;
       waits_are = k.waits_are;
       ticket_is = k.ticket_is;
-      cells_are = k.cells_are;
+      slots_are = k.slots_are;
       inside = k.inside;
       few_cells = k.few_cells;
     }

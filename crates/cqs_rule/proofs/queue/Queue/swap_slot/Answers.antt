@@ -6,6 +6,8 @@ use Rattle.cqs_rule_laws.specs.Layout.{words_for}
 use Rattle.cqs_rule_laws.proofs.Swaps.{inside-swapped, live-swapped, alone-swapped}
 use Rattle.cqs_rule_laws.proofs.Tries.{none-slots}
 use Rattle.cqs_rule.proofs.Slots.{swap-by, only-by, lay-by}
+use Rattle.cqs_rule_laws.proofs.Places.{goes-swapped}
+use Rattle.cqs_rule.proofs.Homes.{keeps-homes}
 use Rattle.cqs_rule.proofs.Spared.{same-spares}
 use Rattle.cqs_rule.proofs.queue.Queue.swap_slot.Goals as goal
 
@@ -31,14 +33,15 @@ invariant_of-pass g c =
       number_is = ap (λ z. z.number) is ∙ p.number_is;
       held_is = ap (λ z. z.facts.has.held) is ∙ p.held_is;
       further_is = ap (λ z. z.facts.has.further) is ∙ p.further_is;
-      spares_are = same-spares _ _ _ _ p.spares (ap (λ z. z.facts.spare_slots) is) (ap (λ z. z.cells) is) p.spares_are;
+      spares_are = same-spares _ _ _ _ p.spares (ap (λ z. z.facts.spare_slots) is) (ap (λ z. z.slots) is) p.spares_are;
+      homes_are = keeps-homes _ _ (goes-swapped _ _ _ swap) p.homes p.homes_are;
       counted = ap (λ z. z.facts.duties) is ∙ p.counted;
       retired = ap (λ z. z.facts.to_retire) is ∙ p.retired;
       shut = ap (λ z. z.facts.open_slot) is ∙ p.shut;
       owes_is = ap (λ z. is_owing z.facts.doing) is ∙ p.owes_is;
       waits_are = ap (λ (z : View _ _). length z.facts.waits) is ∙ p.waits_are;
       ticket_is = λ k e. p.ticket_is k (sym (ap (λ (z : View _ _). z.facts.doing) is) ∙ e);
-      cells_are = ap (λ z. words_for z.cells) is ∙ (p.cells_are ∙ ap (λ t. t.words) (sym table));
+      slots_are = ap (λ z. words_for z.slots) is ∙ (p.slots_are ∙ ap (λ t. t.words) (sym table));
       inside = inside-swapped _ _ _ swap p.inside;
       few_cells = subst (λ n. n < 2147483648) (sym (ap (λ z. z.cells) is)) p.few_cells;
     }

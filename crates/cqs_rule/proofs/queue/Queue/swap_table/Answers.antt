@@ -8,6 +8,7 @@ use Rattle.cqs_rule_laws.specs.Placed.{KnowsPlace, place_at}
 use Rattle.cqs_words.specs.Cell.{index_in}
 use Rattle.cqs_rule.proofs.Crossed.{same-made, stays-missed, ticketless}
 use Rattle.cqs_rule.proofs.Counting.{belongs-counted, counted-none, crossed-none, crossed-one, crossed-retires, keeps-counted}
+use Rattle.cqs_rule.proofs.Homes.{same-homes}
 use Rattle.cqs_rule.proofs.Spared.{same-spares}
 use Rattle.cqs_rule.proofs.queue.Queue.swap_table.Goals as goal
 
@@ -49,14 +50,15 @@ invariant_of-pass-else-found-saw g c =
       number_is = same.number ∙ p.number_is;
       held_is = ap (λ z. z.held) stays.has ∙ p.held_is;
       further_is = ap (λ z. z.further) stays.has ∙ p.further_is;
-      spares_are = same-spares _ _ _ _ p.spares stays.spare_slots same.cells p.spares_are;
+      spares_are = same-spares _ _ _ _ p.spares stays.spare_slots same.slots p.spares_are;
+      homes_are = same-homes _ _ same p.homes p.homes_are;
       counted = stays.duties ∙ p.counted;
       retired = stays.to_retire ∙ p.retired;
       shut = stays.open_slot ∙ p.shut;
       owes_is = ap is_owing stays.doing ∙ p.owes_is;
       waits_are = ap length stays.waits ∙ p.waits_are;
       ticket_is = λ k e. p.ticket_is k (sym stays.doing ∙ e);
-      cells_are = ap words_for same.cells ∙ (p.cells_are ∙ ap (λ t. t.words) (sym e.table));
+      slots_are = ap words_for same.slots ∙ (p.slots_are ∙ ap (λ t. t.words) (sym e.table));
       inside = e.told.2.inside;
       few_cells = subst (λ n. n < 2147483648) (sym same.cells) p.few_cells;
     }
@@ -138,6 +140,7 @@ invariant_of-pass g c =
     let done = c.count_cell.ensures in
     let seat = c.count_cell.new.seat in
     keeps-counted w seat.me.0 c.exchange_at-found.new.seat.me.1 seat.me.1 seat.table_id.words _ _ _ _ _ _ p.spares
+    p.homes
     (record {
       live = (same.weight ∙ p.live.0, ap length e.told.1 ∙ p.live.1);
       number_is = same.number ∙ p.number_is;
@@ -147,7 +150,8 @@ invariant_of-pass g c =
       further_is = carries.further
           ∙ (ap (further_then (change_of s)) p.further_is
           ∙ (ap (λ z. further_then z p.further) (sym is) ∙ sym c.further_after-pass.ensures));
-      spares_are = same-spares _ _ _ _ p.spares carries.spares same.cells p.spares_are;
+      spares_are = same-spares _ _ _ _ p.spares carries.spares same.slots p.spares_are;
+      homes_are = same-homes _ _ same p.homes p.homes_are;
       retired = crossed-retires C.object C.primitive s (row_of s) (index_in c.args.saw) c.args.saw p.seat.me.0
           c.exchange_at-found.result w e.told.0 c.if-found-saw.true ∙ p.retired;
       shut = carries.open_slot ∙ p.shut;
@@ -155,7 +159,7 @@ invariant_of-pass g c =
       waits_are = omega arith;
       ticket_is = λ j e. absurd (ticketless C.object C.primitive s (index_in c.args.saw) c.args.saw p.seat.me.0
           c.exchange_at-found.result w c.exchange_at-found.ensures.told.0 c.if-found-saw.true j e);
-      cells_are = ap words_for same.cells ∙ (p.cells_are ∙ ap (λ t. t.words) (sym (done.table ∙ e.table)));
+      slots_are = ap words_for same.slots ∙ (p.slots_are ∙ ap (λ t. t.words) (sym (done.table ∙ e.table)));
       inside = e.told.2.inside;
       few_cells = subst (λ n. n < 2147483648) (sym same.cells) p.few_cells;
     }) done.counted done.bare
@@ -188,7 +192,8 @@ invariant_of-pass-else-change g c =
       further_is = carries.further
           ∙ (ap (further_then (change_of s)) p.further_is
           ∙ (ap (λ z. further_then z p.further) (sym is) ∙ sym c.further_after-pass.ensures));
-      spares_are = same-spares _ _ _ _ p.spares carries.spares same.cells p.spares_are;
+      spares_are = same-spares _ _ _ _ p.spares carries.spares same.slots p.spares_are;
+      homes_are = same-homes _ _ same p.homes p.homes_are;
       counted = crossed-none C.object C.primitive s (row_of s) (index_in c.args.saw) c.args.saw p.seat.me.0
           c.exchange_at-found.result w e.told.0 c.if-found-saw.true p.counted settles;
       retired = crossed-retires C.object C.primitive s (row_of s) (index_in c.args.saw) c.args.saw p.seat.me.0
@@ -198,7 +203,7 @@ invariant_of-pass-else-change g c =
       waits_are = omega arith;
       ticket_is = λ j e. absurd (ticketless C.object C.primitive s (index_in c.args.saw) c.args.saw p.seat.me.0
           c.exchange_at-found.result w c.exchange_at-found.ensures.told.0 c.if-found-saw.true j e);
-      cells_are = ap words_for same.cells ∙ (p.cells_are ∙ ap (λ t. t.words) (sym (e.table)));
+      slots_are = ap words_for same.slots ∙ (p.slots_are ∙ ap (λ t. t.words) (sym (e.table)));
       inside = e.told.2.inside;
       few_cells = subst (λ n. n < 2147483648) (sym same.cells) p.few_cells;
     }

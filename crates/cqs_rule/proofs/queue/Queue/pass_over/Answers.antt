@@ -1,0 +1,66 @@
+use Rattle.std.proofs.Common.{◌<◌, ◌∙◌, ap, refl, sym, subst, length, arith}
+use Rattle.cqs_rule_laws.specs.Layout.{words_for}
+use Rattle.cqs_rule_laws.proofs.PassedOver.{passes-over}
+use Rattle.cqs_rule.proofs.Homes.{same-homes}
+use Rattle.cqs_rule.proofs.Spared.{same-spares}
+use Rattle.cqs_rule.proofs.queue.Queue.pass_over.Goals as goal
+
+pub load_at-requires-clause-inside : goal.load_at-requires-clause-inside
+load_at-requires-clause-inside g c =
+    let low = c.requires.gone.low in
+    let word = c.requires.gone.word in
+    let words = c.args.pass.now.slots_are ∙ ap (λ t. t.words) c.requires.belongs.table in
+    omega arith
+
+pub load_at-requires-clause-allowed : goal.load_at-requires-clause-allowed
+load_at-requires-clause-allowed g c =
+    let C = g.C.ClientWords in
+    let x = c.args.self.now.table.shared.key.client in
+    passes-over C.object (C.primitive x) _ _ (g.met.C.ClientWords.keeps x) C.primitive x refl
+    c.args.self.now.table.shared.table_id.slots c.args.pass.now.seat.id c.args.pass.now.seat.me c.args.at.index
+    c.args.at.word c.args.pass.now.live.0 c.requires.ticket c.requires.gone
+
+pub invariant_of-pass : goal.invariant_of-pass
+invariant_of-pass g c =
+    let p = c.args.pass.now in
+    let e = c.load_at.ensures in
+    let over = e.told.0 c.args.at.index c.requires.gone c.requires.ticket in
+    let carries = e.told.3 in
+    let same = e.told.4 in
+    let waits = carries.waits in
+    let was = p.waits_are in record {
+      live = (same.weight ∙ p.live.0, ap length e.told.1 ∙ p.live.1);
+      number_is = same.number ∙ p.number_is;
+      held_is = carries.held ∙ p.held_is;
+      further_is = carries.further ∙ p.further_is;
+      spares_are = same-spares _ _ _ _ p.spares carries.spares same.slots p.spares_are;
+      homes_are = same-homes _ _ same p.homes p.homes_are;
+      counted = ap (λ f. f.duties) over.saw.facts_are ∙ p.counted;
+      retired = ap (λ f. f.to_retire) over.saw.facts_are ∙ p.retired;
+      shut = carries.open_slot ∙ p.shut;
+      owes_is = carries.owes ∙ p.owes_is;
+      waits_are = omega arith;
+      ticket_is = λ k t. p.ticket_is k (carries.ticket k t);
+      slots_are = ap words_for same.slots ∙ (p.slots_are ∙ ap (λ t. t.words) (sym e.table));
+      inside = e.told.2.inside;
+      few_cells = subst (λ n. n < 2147483648) (sym same.cells) p.few_cells;
+    }
+
+pub returns-clause-belongs : goal.returns-clause-belongs
+returns-clause-belongs g c =
+    let b = c.requires.belongs in
+    let e = c.load_at.ensures in
+    let same = e.told.4 in record {
+      table = e.table ∙ b.table;
+      slots = b.slots;
+      passes = same.passes ∙ b.passes;
+      limit = same.limit ∙ b.limit;
+      cells = same.cells ∙ b.cells;
+      mode = b.mode;
+      live = e.told.2;
+      opening = same.opening ∙ b.opening;
+      alone = e.alone;
+    }
+
+pub returns-clause-over : goal.returns-clause-over
+returns-clause-over g c = c.load_at.ensures.told.0 c.args.at.index c.requires.gone c.requires.ticket

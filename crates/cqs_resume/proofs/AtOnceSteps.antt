@@ -9,6 +9,8 @@ use Rattle.cqs_core.specs.QueueSteps.{QueueStep, row_of, CellRow, StepRow, at_ce
 use Rattle.cqs_words.specs.declared.cell.CellState.{CellState}
 use Rattle.cqs_words.specs.declared.cell.CellState.TheVariants as shown
 use Rattle.cqs_words.specs.declared.cell.CellWord.{CellWord}
+use Rattle.cqs_rule_laws.specs.declared.config.CancelMode.TheVariants.{Simple}
+use Rattle.cqs_rule_laws.specs.Manner.{asks, at_once, IsAtOnce, Leaving, mode_for, passes_on}
 use Rattle.cqs_rule_laws.specs.declared.view.Facts.{Facts}
 use Rattle.cqs_rule_laws.specs.declared.view.Glimpse.{Glimpse}
 use Rattle.cqs_rule_laws.specs.declared.view.Opening.{Opening}
@@ -63,6 +65,12 @@ is-hole state.Taken may plain far other = may
 is-hole state.Broken may plain far other = may
 is-hole state.Resumed may plain far other = may
 is-hole state.Delegated may plain far other = may
+
+-- where waits leave at once the mode is simple
+pub simple-mode : (l : Leaving) → IsAtOnce l → mode_for l ≡ Simple
+simple-mode asks once = absurd once
+simple-mode passes_on once = absurd once
+simple-mode at_once once = refl
 
 module _ {C E S : Type 0} (object : Object E) (primitive : C → Primitive E S) where
   -- what was found of a cell is plain

@@ -25,9 +25,11 @@ use Rattle.cqs_rule_laws.specs.Facts.{facts_worked, facts_missed, facts_after}
 use Rattle.cqs_rule_laws.specs.Hidden.{Gains}
 use Rattle.cqs_rule_laws.specs.Loads.{meets, event_of, facts_looked, look_entries, told_at}
 use Rattle.cqs_rule_laws.specs.Object.{Object, Primitive}
+use Rattle.cqs_rule_laws.specs.PassedOver.{PassedOver}
 use Rattle.cqs_rule_laws.specs.Placed.{KnowsPlace}
 use Rattle.cqs_rule_laws.specs.Ruled.{shown_state}
 use Rattle.cqs_rule_laws.specs.Saw.{Saw, WasFound}
+use Rattle.cqs_rule_laws.specs.SegmentSteps.{LeftBy}
 use Rattle.cqs_rule_laws.proofs.Calls.{saw-then}
 use Rattle.cqs_rule_laws.proofs.CellSteps.{shown-injective}
 use Rattle.cqs_rule.proofs.Places.{knows-saw}
@@ -35,6 +37,7 @@ use Rattle.cqs_rule.specs.Counting.{counted_after}
 use Rattle.cqs_cell.specs.Looks.{LooksAt, settles_event}
 use Rattle.cqs_cell.specs.Transitions.{facts_since, Made, MadeBy, Missed}
 use Rattle.cqs_find.specs.Finds.{longest_search, facts_searched, Searched}
+use Rattle.cqs_find.proofs.Searches.{saw-left}
 use Rattle.cqs_rule_laws.specs.Settling.{duties_then, settles_row}
 use Rattle.cqs_rule_laws.specs.Kinds.{change_by}
 use Rattle.cqs_resume.specs.Counting.{duties_by, settles_at}
@@ -152,17 +155,17 @@ module _ {C E S : Type 0} (object : Object E) (primitive : C → Primitive E S) 
     pub found : List Sighting
     pub heads : List (ℕ × ℕ)
     pub last : Option Glimpse
-    pub few : length found + length heads ≤ longest_search + tries
+    pub few : length found ≤ tries
     pub few_heads : length heads ≤ longest_search
     pub saw : Saw object v (facts_on_way found heads last v.facts) [] u
 
   pub way-searched : (v u : View E S) → Searched object v u → OnWay 0 v u
   way-searched v u s = record {
-    found = s.found;
+    found = [];
     heads = s.heads;
     last = v.facts.last;
-    few = let few = s.few in omega arith;
-    few_heads = let few = s.few in omega arith;
+    few = omega arith;
+    few_heads = s.few;
     saw = s.saw;
   }
 
@@ -481,3 +484,35 @@ module _ {C E S : Type 0} (object : Object E) (primitive : C → Primitive E S) 
         last = ap (λ (z : Facts). z.found) m.saw.facts_are ∙ sym (append_assoc f.found m.tried here);
         cell = inl (m.left, m.cell, ap (λ (z : Facts). z.has.payload) m.saw.facts_are ∙ owed);
       }
+
+  -- a load that finds no head leaves the pass on its way
+  pub way-stayed : (tries : ℕ) (v u w : View E S) → OnWay tries v u
+      → LeftBy [] u.facts.spare_slots u.facts.duties u w → OnWay tries v w
+  way-stayed tries v u w way left =
+      let s = saw-left object u w [] left in
+      let f : Facts = v.facts in record {
+        found = way.found;
+        heads = way.heads;
+        last = way.last;
+        few = way.few;
+        few_heads = way.few_heads;
+        saw = subst (λ (z : Facts). Saw object v z [] w)
+            (ap (facts_searched [] []) way.saw.facts_are
+            ∙ (λ i. record (facts_on_way way.found way.heads way.last f) {
+              heads = append-nil (f.heads ++ way.heads) i;
+              found = append-nil (f.found ++ way.found) i;
+            }))
+            (saw-then object v u w _ _ [] way.saw s);
+      }
+
+  -- the load by which a number is passed over whose segment was taken out
+  pub worked-gone : (k : ℕ) (n : ℕ) (u w : View E S) → PassedOver object primitive k u n w → WorkedBy passes_over k u w
+  worked-gone k n u w over = record {
+    word = n;
+    left = over.payload;
+    cell = over.cell;
+    counted = [];
+    few_counted = omega arith;
+    saw = over.saw;
+    was = over.was;
+  }

@@ -1,5 +1,5 @@
 -- What becomes of one number: the resume ends at its cell, or passes over it.
-use Rattle.std.specs.Prelude.{◌≡◌, ◌⊎◌, ℕ, ◌+◌, ◌≤◌, List, [], ◌∷◌, ◌++◌, length, Option, Some, None}
+use Rattle.std.specs.Prelude.{◌≡◌, ◌⊎◌, ℕ, ◌≤◌, List, [], ◌∷◌, ◌++◌, length, Option, Some, None}
 use Rattle.cqs_core.specs.declared.cells.CoreState.{CoreState}
 use Rattle.cqs_core.specs.declared.cells.CoreState.TheVariants as state
 use Rattle.cqs_core.specs.declared.doings.Doing.{Doing}
@@ -46,7 +46,7 @@ module _ {C E S : Type 0} (object : Object E) (primitive : C → Primitive E S) 
       (v w : View E S) : Type 0 where
     pub tried : List Sighting
     pub heads : List (ℕ × ℕ)
-    pub few : length tried + length heads ≤ longest_search + 4
+    pub few : length tried ≤ 4
     pub few_heads : length heads ≤ longest_search
     pub word : ℕ
     pub left : ℕ

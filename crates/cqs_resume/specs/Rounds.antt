@@ -18,8 +18,8 @@ pub record Round : Type 0 where
   pub number : ℕ
   -- whether the call drew it: it didn't draw the one whose ticket was open already
   pub drawn : Bool
-  -- what it found on the way: where its cell was looked for, and by exchanges on it that weren't
-  -- made
+  -- what it found on the way: by exchanges on its cell that weren't made, and the heads where its
+  -- segment was looked for
   pub tried : List Sighting
   pub heads : List (ℕ × ℕ)
   -- the cell's word and payload, as the step that was made found them
@@ -34,7 +34,7 @@ cell_in state r = record { number = r.number; state = state; payload = r.payload
 -- exchanges that weren't made
 pub record IsFoundIn (state : CoreState) (r : Round) : Type 0 where
   pub cell : FoundCell r.word (cell_in state r)
-  pub few : length r.tried + length r.heads ≤ longest_search + 4
+  pub few : length r.tried ≤ 4
   pub few_heads : length r.heads ≤ longest_search
 
 -- what the rounds found, in order

@@ -8,7 +8,7 @@ ghost use Rattle.cqs_rule.specs.Passes.{pass_view, client_of, IsOf};
 ghost use Rattle.cqs_resume.specs.AtOnce.{HasMetAtOnce, HasBegunAtOnce, HasFinishedAtOnce, ShowsPlain};
 
 use cqs_cell::{leave_value, look, serve};
-use cqs_find::{Found, find};
+use cqs_find::{Found, locate};
 use cqs_rule::{Begins, ClientWords, Misses, Pass, Queue, RESUMES_WORD, Reaches, Under};
 use cqs_words::CellState;
 
@@ -83,7 +83,7 @@ fn meet_at_once<C: ClientWords>(
     ensures belongs { IsOf queue.now pass.new }
     ensures met { HasMetAtOnce payload number pass.old result pass.new }
 {
-    let Found::At(at) = find(queue, pass, number) else {
+    let Found::At(at) = locate(queue, pass, number) else {
         unreachable!()
     };
     let mut state = match serve(queue, pass, at, payload) {

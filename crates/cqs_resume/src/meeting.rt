@@ -8,14 +8,15 @@ ghost use Rattle.cqs_resume.specs.Meets.{HasMet};
 
 use crate::resumed::Resumed;
 use cqs_cell::{delegate, leave_value, look, serve};
-use cqs_find::{Found, find};
+use cqs_find::{Found, locate, place_after};
 use cqs_rule::{Client, Meets, Pass, Queue};
 use cqs_words::CellState;
 
 /// Ends the resumption at the cell of the number whose ticket is open, or passes over it and
 /// answers none. A waiter is tried first. Whatever is found instead is what is tried next: a cell
 /// only goes on, from Empty to Waiter, from there to Cancelling, and then it is settled. Where its
-/// waiter was refused to leave, the client is told that the resumption ended there.
+/// waiter was refused to leave, the client is told that the resumption ended there. Where the
+/// segment was taken out, the number is passed over.
 #[inline(always)]
 pub(crate) fn meet<C: Client>(
     queue: &Queue<C>,
@@ -30,8 +31,10 @@ pub(crate) fn meet<C: Client>(
     ensures belongs { IsOf queue.now pass.new }
     ensures met { HasMet payload number pass.old result pass.new }
 {
-    let Found::At(at) = find(queue, pass, number) else {
-        unreachable!()
+    let Found::At(at) = locate(queue, pass, number) else {
+        let after = place_after(queue, pass, number);
+        queue.pass_over(pass, after);
+        return None;
     };
     let mut state = match serve(queue, pass, at, payload) {
         Ok(()) => return Some(Resumed::Served(number)),

@@ -33,7 +33,7 @@ module _ {C E S : Type 0} (object : Object E) (primitive : C → Primitive E S) 
     pub found : List Sighting
     pub heads : List (ℕ × ℕ)
     pub last : Option Glimpse
-    pub few : length found + length heads ≤ longest_search + tries
+    pub few : length found ≤ tries
     pub few_heads : length heads ≤ longest_search
     pub saw : Saw object drawn (facts_on_way found heads last (facts_drawn object.gains k v.facts)) [] u
 
@@ -43,12 +43,12 @@ module _ {C E S : Type 0} (object : Object E) (primitive : C → Primitive E S) 
   way-searched k v t u d s = record {
     drawn = t;
     drew = d;
-    found = s.found;
+    found = [];
     heads = s.heads;
     last = None;
-    few = let few = s.few in omega arith;
-    few_heads = let few = s.few in omega arith;
-    saw = subst (λ (f : Facts). Saw object t (facts_searched s.found s.heads f) [] u) d.facts_are s.saw;
+    few = omega arith;
+    few_heads = s.few;
+    saw = subst (λ (f : Facts). Saw object t (facts_searched [] s.heads f) [] u) d.facts_are s.saw;
   }
 
   -- an exchange missed

@@ -1,5 +1,5 @@
 -- What a suspend answers: exactly the state in which its cell was found, at the last of its steps.
-use Rattle.std.specs.Prelude.{◌≡◌, ℕ, ◌+◌, ◌≤◌, List, ◌++◌, length}
+use Rattle.std.specs.Prelude.{◌≡◌, ℕ, ◌≤◌, List, ◌++◌, length}
 use Rattle.cqs_core.specs.QueueSteps.{QueueStep, row_of, CellRow, StepRow, at_counter, at_cell, payload_told, draws, enters, installs, takes}
 use Rattle.cqs_rule_laws.specs.declared.client.ClientWords.{Ghosts}
 use Rattle.cqs_rule.specs.declared.queue.Pass.{Pass}
@@ -60,7 +60,7 @@ module _ {C E S : Type 0} (object : Object E) (primitive : C → Primitive E S) 
         (end_entries object k v s row payload) w
     pub found : List Sighting
     pub heads : List (ℕ × ℕ)
-    pub few : length found + length heads ≤ longest_search + tries
+    pub few : length found ≤ tries
     pub few_heads : length heads ≤ longest_search
     pub counted_heads : List (ℕ × ℕ)
     pub few_counted : length counted_heads ≤ 1

@@ -7,7 +7,7 @@ ghost use Rattle.cqs_suspend.specs.Suspends.{HasEntered};
 
 use crate::suspending::Suspended;
 use cqs_cell::{install, take_value};
-use cqs_find::{Found, find};
+use cqs_find::{Found, locate};
 use cqs_rule::{ClientWords, Enters, Pass, Queue, SUSPENDS_WORD};
 
 /// Draws a number for an idle pass that has seen the suspend counter below the limit, and waits
@@ -21,7 +21,7 @@ pub fn enter<C: ClientWords>(queue: &Queue<C>, pass: &mut Pass<C>) -> Suspended
     ensures entered { HasEntered pass.old result pass.new }
 {
     let number = queue.add_table::<Enters>(pass, SUSPENDS_WORD, 1);
-    let Found::At(at) = find(queue, pass, number) else {
+    let Found::At(at) = locate(queue, pass, number) else {
         unreachable!()
     };
     match install(queue, pass, at) {

@@ -6,7 +6,7 @@ ghost use Rattle.cqs_rule.specs.Passes.{pass_view, IsOf};
 ghost use Rattle.cqs_suspend.specs.Suspends.{Suspends};
 
 use cqs_cell::{install, take_value};
-use cqs_find::{Found, find};
+use cqs_find::{Found, locate};
 use cqs_rule::{ClientWords, Draws, Pass, Queue, SUSPENDS_WORD, Wait};
 
 /// What became of a suspend.
@@ -28,7 +28,7 @@ pub fn suspend<C: ClientWords>(queue: &Queue<C>, pass: &mut Pass<C>) -> Suspende
     ensures suspends { Suspends pass.old result pass.new }
 {
     let number = queue.add_table::<Draws>(pass, SUSPENDS_WORD, 1);
-    let Found::At(at) = find(queue, pass, number) else {
+    let Found::At(at) = locate(queue, pass, number) else {
         unreachable!()
     };
     match install(queue, pass, at) {

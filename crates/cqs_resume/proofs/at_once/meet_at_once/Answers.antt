@@ -1,9 +1,9 @@
-use Rattle.std.proofs.Common.{[], refl, sym, ap, ◌∙◌, arith}
+use Rattle.std.proofs.Common.{[], refl, sym, ap, ◌∙◌, inr, arith}
 use Rattle.cqs_core.specs.declared.cells.CoreState.TheVariants as state
 use Rattle.cqs_core.specs.declared.doings.Doing.TheVariants as doing
 use Rattle.cqs_core.specs.QueueSteps.{serves, leaves, ends_missed}
 use Rattle.cqs_rule_laws.proofs.CellSteps.{shown-injective}
-use Rattle.cqs_resume.proofs.AtOnceSteps.{end-missed, worked-missed}
+use Rattle.cqs_resume.proofs.AtOnceSteps.{end-missed, simple-mode, worked-missed}
 use Rattle.cqs_resume.proofs.OneNumber.{stays-searched, stays-missed, way-searched, tried-first, tried-next, worked-by, met-by, end-serves, end-leaves}
 use Rattle.cqs_resume.proofs.at_once.meet_at_once.Goals as goal
 
@@ -11,24 +11,24 @@ pub returns-in-Ok-clause-met : goal.returns-in-Ok-clause-met
 returns-in-Ok-clause-met g c =
     let C = g.C.ClientWords in (
       refl,
-      met-by C.object C.primitive serves state.Waiter doing.Idle (λ _. []) 0 _ _ _ _ _ _ c.in-At.ensures.at.0
+      met-by C.object C.primitive serves state.Waiter doing.Idle (λ _. []) 0 _ _ _ _ _ _ c.in-At.ensures.locates.0
           (end-serves C.object.gains _) (omega arith) c.requires.payload
-          (way-searched C.object C.primitive _ _ c.find.ensures.searched)
+          (way-searched C.object C.primitive _ _ c.locate.ensures.searched)
           (worked-by C.object C.primitive serves _ 0 _ _ c.in-Ok.ensures.made),
     )
 
 pub loop-state-init : goal.loop-state-init
 loop-state-init g c =
     let C = g.C.ClientWords in
-    let first = stays-searched C.object C.primitive _ _ c.find.ensures.searched in
+    let first = stays-searched C.object C.primitive _ _ c.locate.ensures.searched in
     let m = c.in-Err.ensures.missed in
     let then = stays-missed C.object C.primitive _ _ _ _ _ m in record {
       belongs = c.in-Err.ensures.belongs;
-      number = c.in-At.ensures.at.0;
-      ticket = then.doing ∙ (first.doing ∙ (c.requires.ticket ∙ ap doing.Ticket (sym c.in-At.ensures.at.0)));
+      number = c.in-At.ensures.locates.0;
+      ticket = then.doing ∙ (first.doing ∙ (c.requires.ticket ∙ ap doing.Ticket (sym c.in-At.ensures.locates.0)));
       owes = then.payload ∙ (first.payload ∙ c.requires.payload);
-      place = then.place c.in-At.at c.in-At.ensures.at.1;
-      tried = tried-first C.object C.primitive _ _ _ _ _ _ refl c.find.ensures.searched m;
+      place = then.place c.in-At.at c.in-At.ensures.locates.1;
+      tried = tried-first C.object C.primitive _ _ _ _ _ _ refl c.locate.ensures.searched m;
     }
 
 pub loop-state-preserved-in-Err-leave_value : goal.loop-state-preserved-in-Err-leave_value
@@ -90,3 +90,13 @@ returns-in-Cancelled-clause-met g c =
           (end-missed C.object.gains _) (omega arith) c.requires.payload l.tried.way
           (worked-missed C.object C.primitive _ _ _ _ c.look.ensures.looks c.in-Cancelled.is),
     )
+
+pub unreachable-requires : goal.unreachable-requires
+unreachable-requires g c =
+    let C = g.C.ClientWords in
+    let x = c.args.queue.now.table.shared.key.client in
+    let out = c.in_default.ensures.locates in
+    let first = stays-searched C.object C.primitive _ _ c.in_default.ensures.searched in
+    let mode = ap (λ o. o.mode) c.in_default.ensures.belongs.opening
+    ∙ ((g.met.C.ClientWords.keeps x).mode ∙ simple-mode _ c.requires.at_once) in
+    out.own c.args.number (inr (inr (inr (inr (first.doing ∙ c.requires.ticket, mode))))) out.out

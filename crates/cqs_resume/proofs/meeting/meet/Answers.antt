@@ -3,7 +3,7 @@ use Rattle.cqs_core.specs.declared.cells.CoreState.TheVariants as state
 use Rattle.cqs_core.specs.declared.doings.Doing.TheVariants as doing
 use Rattle.cqs_core.specs.QueueSteps.{serves, leaves, delegates, passes_over, ends_refused}
 use Rattle.cqs_rule_laws.proofs.CellSteps.{shown-injective}
-use Rattle.cqs_resume.proofs.OneNumber.{stays-searched, stays-missed, way-searched, tried-first, tried-next, worked-by, worked-over, worked-refused, met-by, end-serves, end-leaves, end-delegates, end-refused, end-over, ended-refused}
+use Rattle.cqs_resume.proofs.OneNumber.{stays-searched, stays-missed, way-searched, tried-first, tried-next, way-stayed, worked-by, worked-gone, worked-over, worked-refused, met-by, end-serves, end-leaves, end-delegates, end-refused, end-over, ended-refused}
 use Rattle.cqs_resume.specs.declared.resumed.Resumed.TheVariants.{Refused}
 use Rattle.cqs_resume.specs.Meets.{HasMet}
 use Rattle.cqs_resume.proofs.meeting.meet.Goals as goal
@@ -12,24 +12,24 @@ pub returns-in-Ok-clause-met : goal.returns-in-Ok-clause-met
 returns-in-Ok-clause-met g c =
     let C = g.C.ClientWords in (
       refl,
-      met-by C.object C.primitive serves state.Waiter doing.Idle (λ _. []) 0 _ _ _ _ _ _ c.in-At.ensures.at.0
+      met-by C.object C.primitive serves state.Waiter doing.Idle (λ _. []) 0 _ _ _ _ _ _ c.in-At.ensures.locates.0
           (end-serves C.object.gains _) (omega arith) c.requires.payload
-          (way-searched C.object C.primitive _ _ c.find.ensures.searched)
+          (way-searched C.object C.primitive _ _ c.locate.ensures.searched)
           (worked-by C.object C.primitive serves _ 0 _ _ c.in-Ok.ensures.made),
     )
 
 pub loop-state-init : goal.loop-state-init
 loop-state-init g c =
     let C = g.C.ClientWords in
-    let first = stays-searched C.object C.primitive _ _ c.find.ensures.searched in
+    let first = stays-searched C.object C.primitive _ _ c.locate.ensures.searched in
     let m = c.in-Err.ensures.missed in
     let then = stays-missed C.object C.primitive _ _ _ _ _ m in record {
       belongs = c.in-Err.ensures.belongs;
-      number = c.in-At.ensures.at.0;
-      ticket = then.doing ∙ (first.doing ∙ (c.requires.ticket ∙ ap doing.Ticket (sym c.in-At.ensures.at.0)));
+      number = c.in-At.ensures.locates.0;
+      ticket = then.doing ∙ (first.doing ∙ (c.requires.ticket ∙ ap doing.Ticket (sym c.in-At.ensures.locates.0)));
       owes = then.payload ∙ (first.payload ∙ c.requires.payload);
-      place = then.place c.in-At.at c.in-At.ensures.at.1;
-      tried = tried-first C.object C.primitive _ _ _ _ _ _ refl c.find.ensures.searched m;
+      place = then.place c.in-At.at c.in-At.ensures.locates.1;
+      tried = tried-first C.object C.primitive _ _ _ _ _ _ refl c.locate.ensures.searched m;
     }
 
 pub loop-state-preserved-in-Err-leave_value : goal.loop-state-preserved-in-Err-leave_value
@@ -137,3 +137,12 @@ returns-in-Refused-clause-met g c =
           (end-refused C.object.gains _) (omega arith) c.requires.payload l.tried.way
           (worked-refused C.object C.primitive _ _ _ _ c.look.ensures.looks c.in-Refused.is),
     )
+
+pub returns-in_default-clause-met : goal.returns-in_default-clause-met
+returns-in_default-clause-met g c =
+    let C = g.C.ClientWords in
+    let way = way-stayed C.object C.primitive 0 _ _ _
+    (way-searched C.object C.primitive _ _ c.in_default.ensures.searched) c.place_after-after.ensures.stayed in
+    met-by C.object C.primitive passes_over state.Cancelled doing.Owes (λ k. k ∷ []) 0 _ _ _ _ _ _
+    c.place_after-after.ensures.index (end-over C.object.gains _) (omega arith) c.requires.payload way
+    (worked-gone C.object C.primitive _ _ _ _ c.pass_over.ensures.over)

@@ -1,4 +1,4 @@
-use Rattle.std.proofs.Common.{ap, sym, ◌∙◌, subst}
+use Rattle.std.proofs.Common.{ap, sym, ◌∙◌, subst, inl}
 use Rattle.cqs_core.specs.QueueSteps.{draws, installs, takes}
 use Rattle.cqs_rule_laws.specs.Lists.{Has}
 use Rattle.cqs_rule.specs.Passes.{pass_view}
@@ -10,32 +10,35 @@ pub wait_of-requires-clause-wait : goal.wait_of-requires-clause-wait
 wait_of-requires-clause-wait g c =
     let C = g.C.ClientWords in
     let k = c.add_table-number.result in
-    let way = way-searched C.object C.primitive draws k _ _ _ c.add_table-number.ensures.saw c.find.ensures.searched in
-    subst (λ z. Has z (pass_view c.install.new.pass).facts.waits) (sym c.in-At.ensures.at.0)
+    let way = way-searched C.object C.primitive draws k _ _ _ c.add_table-number.ensures.saw
+    c.locate.ensures.searched in
+    subst (λ z. Has z (pass_view c.install.new.pass).facts.waits) (sym c.in-At.ensures.locates.0)
     (waits-here C.object C.primitive draws 0 k 0 _ _
-    (ends-by C.object C.primitive draws installs 0 0 k _ 0 _ _ _ way c.in-At.ensures.at.0 c.in-Ok.ensures.made))
+    (ends-by C.object C.primitive draws installs 0 0 k _ 0 _ _ _ way c.in-At.ensures.locates.0 c.in-Ok.ensures.made))
 
 pub wait_of-requires-clause-place : goal.wait_of-requires-clause-place
 wait_of-requires-clause-place g c =
     let C = g.C.ClientWords in
-    knows-saw C.object (pass_view c.find.new.pass)
-    (pass_view c.install.new.pass) _ _ _ c.in-Ok.ensures.made.saw c.in-At.ensures.at.1
+    knows-saw C.object (pass_view c.locate.new.pass)
+    (pass_view c.install.new.pass) _ _ _ c.in-Ok.ensures.made.saw c.in-At.ensures.locates.1
 
 pub take_value-requires-clause-place : goal.take_value-requires-clause-place
 take_value-requires-clause-place g c =
     let C = g.C.ClientWords in
-    knows-saw C.object (pass_view c.find.new.pass) (pass_view c.install.new.pass) _ _ _ c.in-Err.ensures.missed.saw
-    c.in-At.ensures.at.1
+    knows-saw C.object (pass_view c.locate.new.pass) (pass_view c.install.new.pass) _ _ _ c.in-Err.ensures.missed.saw
+    c.in-At.ensures.locates.1
 
 pub returns-in-Ok-clause-suspends : goal.returns-in-Ok-clause-suspends
 returns-in-Ok-clause-suspends g c =
     let C = g.C.ClientWords in
     let k = c.add_table-number.result in
-    let way = way-searched C.object C.primitive draws k _ _ _ c.add_table-number.ensures.saw c.find.ensures.searched in
-    let ends = ends-by C.object C.primitive draws installs 0 0 k _ 0 _ _ _ way c.in-At.ensures.at.0 c.in-Ok.ensures.made
-    in (
+    let way = way-searched C.object C.primitive draws k _ _ _ c.add_table-number.ensures.saw
+    c.locate.ensures.searched in
+    let ends = ends-by C.object C.primitive draws installs 0 0 k _ 0 _ _ _ way c.in-At.ensures.locates.0
+    c.in-Ok.ensures.made in (
       ends-at C.object C.primitive draws installs 0 k _ 0 _ _ _
-          (ap (λ p. p.index) c.wait_of.ensures.place ∙ c.in-At.ensures.at.0) (ap pass_view c.wait_of.ensures.same) ends,
+          (ap (λ p. p.index) c.wait_of.ensures.place ∙ c.in-At.ensures.locates.0)
+          (ap pass_view c.wait_of.ensures.same) ends,
       c.wait_of.ensures.has,
     )
 
@@ -43,7 +46,16 @@ pub returns-in-Ok-take_value-clause-suspends : goal.returns-in-Ok-take_value-cla
 returns-in-Ok-take_value-clause-suspends g c =
     let C = g.C.ClientWords in
     let k = c.add_table-number.result in
-    let way = way-searched C.object C.primitive draws k _ _ _ c.add_table-number.ensures.saw c.find.ensures.searched in
+    let way = way-searched C.object C.primitive draws k _ _ _ c.add_table-number.ensures.saw
+    c.locate.ensures.searched in
     ends-by C.object C.primitive draws takes 1 1 k _ _ _ _ _
-    (way-missed-by C.object C.primitive draws installs 0 k _ _ _ _ _ way c.in-At.ensures.at.0 c.in-Err.ensures.missed)
-    c.in-At.ensures.at.0 c.in-Ok-take_value.ensures.took
+    (way-missed-by C.object C.primitive draws installs 0 k _ _ _ _ _ way c.in-At.ensures.locates.0
+    c.in-Err.ensures.missed)
+    c.in-At.ensures.locates.0 c.in-Ok-take_value.ensures.took
+
+pub unreachable-requires : goal.unreachable-requires
+unreachable-requires g c =
+    let out = c.in_default.ensures.locates in
+    let drawn = ap (λ f. f.doing) c.in_default.ensures.searched.saw.facts_are
+    ∙ ap (λ f. f.doing) c.add_table-number.ensures.saw.facts_are in
+    out.own c.add_table-number.result (inl drawn) out.out

@@ -1,5 +1,5 @@
 -- What a worker came to and has no more, beside what its jobs have, over each of its calls.
-use Rattle.std.proofs.Common.{◌≡◌, ◌≢◌, ◌⊎◌, inl, inr, ℕ, ◌+◌, ◌<◌, ◌==◌, Bool, true, false, cond, List, [], ◌∷◌, ◌++◌, Option, Some, None, IsSome, length, set, slice_get, sum_by, refl, ap, sym, ◌∙◌, subst, arith, eq-eqb, ne_eqb}
+use Rattle.std.proofs.Common.{◌≡◌, ◌≢◌, ◌⊎◌, inl, inr, ℕ, ◌+◌, ◌<◌, ◌≤◌, ◌==◌, Bool, true, false, cond, List, [], ◌∷◌, ◌++◌, Option, Some, None, IsSome, length, set, slice_get, sum_by, refl, ap, sym, ◌∙◌, subst, arith, eq-eqb, ne_eqb}
 use Rattle.std.proofs.lemmas.Bool.{cases_eq}
 use Rattle.std.proofs.lemmas.List.{length-set}
 use Rattle.std.proofs.lemmas.List.Elements.{filter-append}
@@ -14,7 +14,7 @@ use Rattle.cqs_plan.specs.declared.floors.answers.FloorTake.TheVariants.{Now, Wa
 use Rattle.cqs_plan.specs.declared.floors.answers.FloorDown.{FloorDown}
 use Rattle.cqs_plan.specs.declared.plans.kind.Kind.{Kind}
 use Rattle.cqs_plan.specs.declared.plans.kind.Kind.TheVariants as kind
-use Rattle.cqs_plan.specs.Floor.{PlainFloor, JobWait, Holding, IsJob, IsHolding, IsIdle, IsHoldable, IsLatch, HasRound, holds_of, wait_of, round_of, oldest}
+use Rattle.cqs_plan.specs.Floor.{PlainFloor, JobWait, Holding, IsJob, IsHolding, IsIdle, IsHoldable, IsLatch, HasRound, holds_of, wait_of, room_at, round_of, oldest}
 use Rattle.cqs_plan.specs.FloorHistory.{History, of_permits, of_elements, of_latch, of_rounds}
 use Rattle.cqs_floor_shared.specs.declared.shared.SharedGive.{SharedGive}
 use Rattle.cqs_floor_shared.specs.declared.shared.SharedGive.TheVariants as shared
@@ -24,6 +24,7 @@ use Rattle.cqs_floor_shared.specs.Shared.{Shared, Sees, seen_at, kind_at}
 use Rattle.cqs_floor_shared.specs.Calls.{Takes, Gives, Downs, Waits as Waits_at, Arrives, IsDrawn, board_taken, board_waited, board_arrived, board_given, element_held}
 use Rattle.cqs_work.specs.Accounts.{Weights, gains, losses, doors, enters, sum_of, sum_in, waits_at, held_at, count_at, IsAccounted}
 use Rattle.cqs_work.specs.Later.{Later}
+use Rattle.cqs_work.proofs.Draws.{arrived-room, came-few, counted-none, entered_in, given-none, room-kept, taken-room, waited-room}
 use Rattle.cqs_work.proofs.Lasting.{seen-all, seen-here, seen-else, sees-later}
 
 -- what the caller's entries add up to in a longer history
@@ -77,8 +78,9 @@ module _ (f : Shared) (at : ℕ) (entries : Entries) (g : Shared) (sees : Sees f
   pub later-by : (IsHoldable (kind_at f at)
       → sum_of gains entries + count_at f.board at ≡ sum_of losses entries + count_at g.board at)
       → ((q : ℕ) → q ≢ at → count_at g.board q ≡ count_at f.board q) → sum_of enters entries ≡ sum_of doors entries
-      → Later f g
-  later-by here elsewhere door = sees-later f at entries g sees kinds (λ acc. record {
+      → ((round : ℕ) → entered_in entries round + room_at g.board at ≤ room_at f.board at)
+      → ((q : ℕ) → q ≢ at → room_at g.board q ≤ room_at f.board q) → Later f g
+  later-by here elsewhere door uses kept = sees-later f at entries g sees kinds (λ acc. record {
     long = omega (arith, acc.long, ap length kinds, ap length sees.seen, long);
     even = λ q holdable. even acc q (subst IsHoldable (ap (λ ks. slice_get ks q) kinds) holdable) (cases_eq q at);
     entered = λ q.
@@ -86,7 +88,7 @@ module _ (f : Shared) (at : ℕ) (entries : Entries) (g : Shared) (sees : Sees f
         ∙ seen-all (λ r h. sum_in enters f.number h ≡ sum_in doors f.number h) f at entries g sees (entered acc)
         acc.entered q
         ∙ ap (λ n. sum_in doors n (seen_at g q)) (sym sees.same.number);
-  })
+  }) (room-kept f at entries g sees uses kept)
     where
       long : length (set f.seen at (with_entries (seen_at f at) sees.more)) ≡ length f.seen
       long = length-set f.seen at (with_entries (seen_at f at) sees.more)
@@ -241,8 +243,9 @@ taken-kinds b at job (Some (Waits k)) = refl
 taken-kinds b at job None = refl
 
 pub take-later : (f : Shared) (at job : ℕ) (got : Option FloorTake) (g : Shared) → Takes f at job got g
-    → IsHoldable (kind_at f at) → IsJob f.board job → IsIdle f.board job → Later f g
-take-later f at job got g takes holdable is_job idle =
+    → IsHoldable (kind_at f at) → IsJob f.board job → IsIdle f.board job → 0 < room_at f.board at → Later f g
+take-later f at job got g takes holdable is_job idle some =
+    let room = taken-room f.board at job got some in
     let adds = taken-adds (kind_at f at) f.number got takes.drew holdable takes.drawn in
     later-by f at _ g takes.sees (ap (λ b. b.kinds) takes.board ∙ taken-kinds f.board at job got)
     (λ h. omega (
@@ -260,6 +263,13 @@ take-later f at job got g takes holdable is_job idle =
       at-else at q (taken_ones got) other,
     ))
     adds.entered
+    (λ r. omega (
+      arith,
+      came-few (kind_at f at) 0 f.number got takes.drew r,
+      ap (λ b. room_at b at) takes.board,
+      room.here,
+    ))
+    (λ q other. omega (arith, ap (λ b. room_at b q) takes.board, room.elsewhere q other))
 
 -- who comes to a latch or a barrier comes to nothing that is given back
 no-latch : (k : Option Kind) → IsLatch k → IsHoldable k → ⊥
@@ -315,12 +325,20 @@ waited-kinds b at job (Some (Waits k)) = refl
 waited-kinds b at job None = refl
 
 pub wait-later : (f : Shared) (at job : ℕ) (got : Option FloorTake) (g : Shared) → Waits_at f at job got g
-    → IsLatch (kind_at f at) → IsJob f.board job → IsIdle f.board job → Later f g
-wait-later f at job got g comes latch is_job idle =
+    → IsLatch (kind_at f at) → IsJob f.board job → IsIdle f.board job → 0 < room_at f.board at → Later f g
+wait-later f at job got g comes latch is_job idle some =
+    let room = waited-room f.board at job got some in
     later-by f at _ g comes.sees (ap (λ b. b.kinds) comes.board ∙ waited-kinds f.board at job got)
     (λ holdable. absurd (no-latch (kind_at f at) latch holdable))
     (λ q other. ap (λ b. count_at b q) comes.board ∙ waited-count f.board at job got q is_job idle other)
     (latch-doors (kind_at f at) f.number got comes.drew latch)
+    (λ r. omega (
+      arith,
+      came-few (kind_at f at) 0 f.number got comes.drew r,
+      ap (λ b. room_at b at) comes.board,
+      room.here,
+    ))
+    (λ q other. omega (arith, ap (λ b. room_at b q) comes.board, room.elsewhere q other))
 
 arrived-count : (b : PlainFloor) (at job : ℕ) (got : Option FloorTake) (q : ℕ) → IsJob b job → IsIdle b job → q ≢ at
     → count_at (board_arrived b at job got) q ≡ count_at b q
@@ -345,19 +363,29 @@ arrived-kinds b at job (Some (Waits k)) = refl
 arrived-kinds b at job None = refl
 
 pub arrive-later : (f : Shared) (at job : ℕ) (got : Option FloorTake) (g : Shared) → Arrives f at job got g
-    → HasRound (kind_at f at) (round_of f.board job at) → IsJob f.board job → IsIdle f.board job → Later f g
-arrive-later f at job got g comes has is_job idle =
+    → HasRound (kind_at f at) (round_of f.board job at) → IsJob f.board job → IsIdle f.board job
+    → 0 < room_at f.board at → Later f g
+arrive-later f at job got g comes has is_job idle some =
+    let room = arrived-room f.board at job got some in
     let round : ℕ = round_of f.board job at in
     later-by f at _ g comes.sees (ap (λ b. b.kinds) comes.board ∙ arrived-kinds f.board at job got)
     (λ holdable. absurd (no-round (kind_at f at) round has holdable))
     (λ q other. ap (λ b. count_at b q) comes.board ∙ arrived-count f.board at job got q is_job idle other)
     (round-doors (kind_at f at) round f.number got comes.drew has)
+    (λ r. omega (
+      arith,
+      came-few (kind_at f at) round f.number got comes.drew r,
+      ap (λ b. room_at b at) comes.board,
+      room.here,
+    ))
+    (λ q other. omega (arith, ap (λ b. room_at b q) comes.board, room.elsewhere q other))
 
 pub down-later : (f : Shared) (at : ℕ) (got : FloorDown) (g : Shared) → Downs f at got g → Later f g
 down-later f at got g downs =
     later-by f at _ g downs.sees (ap (λ b. b.kinds) downs.board)
     (λ holdable. omega (arith, ap (λ b. count_at b at) downs.board)) (λ q other. ap (λ b. count_at b q) downs.board)
-    refl
+    refl (λ r. omega (arith, counted-none f.number got r, ap (λ b. room_at b at) downs.board))
+    (λ q other. omega (arith, ap (λ b. room_at b q) downs.board))
 
 -- a give: one entry that loses
 record GivenAdds (entries : Entries) : Type 0 where
@@ -416,3 +444,9 @@ give-later f at job got g gives holdable is_job holding =
       one-else at q other,
     ))
     adds.entered
+    (λ r. omega (
+      arith,
+      given-none (kind_at f at) f.number (element_held f.board at job) got r,
+      ap (λ b. room_at b at) gives.board,
+    ))
+    (λ q other. omega (arith, ap (λ b. room_at b q) gives.board))

@@ -178,13 +178,14 @@ counted-plain c got = record { drawn = refl; taken = refl }
 -- a call with such entries, by which no job is told a wait
 pub call-keeps : (f : Desk) (at : ℕ) (entries : Entries) (g : Desk) → Sees f.floor at entries g.floor
     → g.floor.board.kinds ≡ f.floor.board.kinds → ArePlain entries → g.waits ≡ f.waits
-    → g.floor.came ≡ f.floor.came → Keeps f g
-call-keeps f at entries g sees kinds plain waits came = record {
+    → g.floor.came ≡ f.floor.came → g.floor.board.room ≡ f.floor.board.room → Keeps f g
+call-keeps f at entries g sees kinds plain waits came room = record {
   waits = waits;
   came = λ j. ap (λ l. get_or l j false) came;
   noted = call-noted f at entries g sees kinds [] (waits ∙ sym (append-nil f.waits)) (λ permits. plain.drawn)
       (λ q other. refl);
   tally = λ noted q permits. go noted q permits (cases_eq q at);
+  room = λ q. omega (arith, ap (λ l. get_or l q 0) room);
 }
   where
     go : IsNoted f → (q : ℕ) → HasPermits (kind_at f.floor q) → (q ≡ at) ⊎ (q ≢ at)
@@ -198,7 +199,13 @@ call-keeps f at entries g sees kinds plain waits came = record {
 
 pub keeps-none : (f : Desk) → Keeps f f
 keeps-none f =
-    record { waits = refl; came = λ j. refl; noted = λ noted. noted; tally = λ noted at permits. refl }
+    record {
+      waits = refl;
+      came = λ j. refl;
+      noted = λ noted. noted;
+      tally = λ noted at permits. refl;
+      room = λ at. omega arith;
+    }
 
 pub keeps-then : (f g k : Desk) → g.floor.board.kinds ≡ f.floor.board.kinds → Keeps f g → Keeps g k → Keeps f k
 keeps-then f g k kinds first second = record {
@@ -208,6 +215,7 @@ keeps-then f g k kinds first second = record {
   tally = λ noted at permits.
       second.tally (first.noted noted) at (subst HasPermits (ap (λ ks. slice_get ks at) (sym kinds)) permits)
       ∙ first.tally noted at permits;
+  room = λ at. omega (arith, first.room at, second.room at);
 }
 
 -- what a job is told by an answer

@@ -22,7 +22,7 @@ use Rattle.cqs_plan.specs.PlanSteps.{is_take}
 use Rattle.std.specs.List.{list_any}
 
 -- what is needed of each job is so much, where it counts
-steps-needed : (w : ℕ → Job → Stage → ℕ) (counts : ℕ → Bool) (each : Job → ℕ) (k : ℕ) (jobs : List Job)
+pub steps-needed : (w : ℕ → Job → Stage → ℕ) (counts : ℕ → Bool) (each : Job → ℕ) (k : ℕ) (jobs : List Job)
     (stages : List Stage) → length stages ≡ length jobs
     → ((i : ℕ) (job : Job) (s : Stage) → slice_get jobs i ≡ Some job → slice_get stages i ≡ Some s
     → w (k + i) job s ≡ (if counts (k + i) then each job else 0))
@@ -57,7 +57,7 @@ none-needed w k (job ∷ jobs) (s ∷ stages) none =
     further i = omega arith
 
 -- counted from the first place
-from-first : (i : ℕ) (P : ℕ → Type 0) → P i → P (0 + i)
+pub from-first : (i : ℕ) (P : ℕ → Type 0) → P i → P (0 + i)
 from-first i P here = let same : i ≡ 0 + i = omega arith in subst P same here
 
 both-true : (a b : Bool) → (a && b) ≡ true → (a ≡ true) × (b ≡ true)

@@ -7,11 +7,12 @@ use Rattle.std.proofs.lemmas.List.Elements.{All-append, All-nil}
 use Rattle.cqs_core.proofs.Places.{get-set_here, get-set_else, get-below, get-there}
 use Rattle.cqs_plan.specs.declared.plans.job.Job.{Job}
 use Rattle.cqs_plan.specs.declared.plans.plan.Plan.{Plan}
+use Rattle.cqs_plan.specs.Floor.{room_at}
 use Rattle.cqs_floor_shared.specs.Shared.{kind_at}
 use Rattle.cqs_work.specs.declared.waits.Waited.{Waited}
 use Rattle.cqs_work.specs.Desk.{Desk}
 use Rattle.cqs_work.specs.Later.{Later}
-use Rattle.cqs_work.specs.Needs.{sum_of_needs}
+use Rattle.cqs_work.specs.Needs.{room_needed, sum_of_needs}
 use Rattle.cqs_work.specs.Noted.{HasPermits, IsNoted}
 use Rattle.cqs_work.specs.Takes.{takes_made, took, TalliesInTurn}
 use Rattle.cqs_work.specs.Causes.{IsCaused}
@@ -32,6 +33,7 @@ went-none plan f stages = record {
   least = λ noted mine at permits. omega arith;
   most = λ noted at permits. omega arith;
   caused = λ noted caused. caused;
+  room = λ at. omega arith;
 }
 
 pub went-then : (plan : Plan) (f g k : Desk) (before mid now : List Stage) → Later f.floor g.floor
@@ -53,6 +55,7 @@ went-then plan f g k before mid now later first second = record {
   most = λ noted at permits.
       omega (arith, first.most noted at permits, second.most (first.noted noted) at (on-kinds at permits));
   caused = λ noted caused. second.caused (first.noted noted) (first.caused noted caused);
+  room = λ at. omega (arith, first.room at, second.room at);
 }
   where
     on-kinds : (at : ℕ) → HasPermits (kind_at f.floor at) → HasPermits (kind_at g.floor at)
@@ -82,8 +85,11 @@ went-then plan f g k before mid now later first second = record {
 -- the turn of one job
 pub went-one : (plan : Plan) (f g : Desk) (place : ℕ) (job : Job) (p q : Stage) (stages : List Stage)
     → slice_get plan.jobs place ≡ Some job → slice_get stages place ≡ Some p → Later f.floor g.floor
-    → AddsInTurn job place f p g q → Went plan f stages g (set stages place q)
-went-one plan f g place job p q stages got_job got later adds = record {
+    → AddsInTurn job place f p g q
+    → ((at : ℕ) → room_at f.floor.board at + room_needed at place job q
+    ≤ room_at g.floor.board at + room_needed at place job p)
+    → Went plan f stages g (set stages place q)
+went-one plan f g place job p q stages got_job got later adds room = record {
   long = length-set stages place q;
   more = adds.more;
   waits = adds.waits;
@@ -100,6 +106,10 @@ went-one plan f g place job p q stages got_job got later adds = record {
     at = λ j other x got_other got_x.
         cause noted caused j other x got_other got_x (cases_eq j place);
   };
+  room = λ at.
+      let moved = needed-set (room_needed at) (room_needed at) 0 plan.jobs stages place place itself job p q got_job
+      got (λ m j x other. refl) in
+      omega (arith, room at, moved);
 }
   where
     itself : place ≡ 0 + place

@@ -1,6 +1,7 @@
 -- A whole run of a plan by several workers: from what each of its parts leaves.
 use Rattle.std.proofs.Common.{length-append, ◌≡◌, ◌≢◌, ◌⊎◌, inl, inr, ℕ, zero, suc, ◌<◌, ◌≤◌, ◌%◌, List, [], ◌∷◌, ◌++◌, Some, Result, IfOk, All, AllPairs, Bool, flat_map, length, map, get_or, slice_get, refl, sym, ap, subst, ◌∙◌, arith}
 use Rattle.std.proofs.Math.ListN.{get_or-map}
+use Rattle.std.proofs.Math.Nat.{mod-lt}
 use Rattle.std.proofs.lemmas.List.{append-nil, length-map}
 use Rattle.std.proofs.lemmas.List.Elements.{All-nil, All-cons}
 use Rattle.std.proofs.lemmas.List.Folds.{flat_map-map}
@@ -13,7 +14,7 @@ use Rattle.cqs_core.specs.Numbered.{IsIn}
 use Rattle.cqs_plan.specs.declared.plans.job.Job.{Job}
 use Rattle.cqs_plan.specs.declared.plans.plan.Plan.{Plan}
 use Rattle.cqs_plan.specs.declared.plans.resource.Resource.{Resource}
-use Rattle.cqs_plan.specs.Floor.{IsHoldable}
+use Rattle.cqs_plan.specs.Floor.{IsHoldable, waits_of_job}
 use Rattle.cqs_plan.specs.FloorHistory.{History, of_permits, of_elements, of_latch, of_rounds}
 use Rattle.cqs_plan.specs.Runnable.{IsRunnable, kinds_of}
 use Rattle.cqs_turns_report.specs.declared.states.JobState.{JobState}
@@ -28,14 +29,15 @@ use Rattle.cqs_work.specs.declared.works.Worker.{Worker}
 use Rattle.cqs_work.specs.declared.ends.JobEnd.TheVariants.{Unfinished}
 use Rattle.cqs_work.specs.declared.waits.WaitLine.{WaitLine}
 use Rattle.cqs_work.specs.Accounts.{sum_in}
-use Rattle.cqs_work.specs.Causes.{IsCaused, HasCause, last_wait}
+use Rattle.cqs_work.specs.Causes.{IsCaused, HasCause, WasCrowded, last_wait}
 use Rattle.cqs_work.specs.Courses.{GoesOn}
 use Rattle.cqs_work.specs.Desk.{desk, fresh_desk}
+use Rattle.cqs_work.specs.Drawn.{AreFew, AreWide, drew, own_drawn}
 use Rattle.cqs_work.specs.Gated.{Gated, HasTold, untold}
 use Rattle.cqs_work.specs.Ends.{job_end}
 use Rattle.cqs_work.specs.Noted.{draws_in, HasPermits, told_at, as_draw, IsNoted}
 use Rattle.cqs_work.specs.Rows.{AreLines}
-use Rattle.cqs_work.specs.Takes.{takes, took, take_steps, take_tries}
+use Rattle.cqs_work.specs.Takes.{sum_of_takes, takes, took, take_steps, take_tries}
 use Rattle.cqs_work.specs.Even.{IsEven, IsEvenAtPool}
 use Rattle.cqs_work.specs.Heard.{heard}
 use Rattle.cqs_work.specs.Later.{Later, IsSound, IsUnnamed}
@@ -43,7 +45,7 @@ use Rattle.cqs_work.specs.Met.{CanMeet, CanMeetAll, HaveMet, HaveMetAll, IsKeptI
 use Rattle.cqs_work.specs.Opening.{dealt, AreStarting, IsOpening, AreSplit, ArePosts}
 use Rattle.cqs_work.specs.Stages.{Stage, stage_of, stages_of, progress_at, done_stage}
 use Rattle.cqs_work.specs.Works.{HasWorkedOn, RunsOn, HasWorked, AllWorked, turns_of, close_all}
-use Rattle.cqs_work.specs.Worked.{IsGated, AreGated, IsParted, AreParted, AreEnds, IsTold, AreTold, AreQuiet, AreWaits, AreBounded, HaveAllIn, end_at, is_own, is_own_done, seeing_all}
+use Rattle.cqs_work.specs.Worked.{IsGated, AreGated, IsParted, AreParted, AreEnds, IsTold, AreTold, AreQuiet, AreWaits, AreBounded, AreUncrowded, HaveAllIn, end_at, is_own, is_own_done, seeing_all}
 use Rattle.cqs_work.proofs.Lasting.{later-then}
 use Rattle.cqs_work.proofs.Meeting.{has-back}
 use Rattle.cqs_work.proofs.Causing.{caused-stays, seen-cause}
@@ -51,6 +53,7 @@ use Rattle.cqs_work.proofs.Bounding.{done-made, none-made, all-left, sum-kept}
 use Rattle.cqs_work.proofs.Crews.{IsMember, AreCrew, waits-are, line-told}
 use Rattle.cqs_work.proofs.Gating.{told-then}
 use Rattle.cqs_work.proofs.Openings.{map-back, stages-dealt, opening-runs, opening-sound, opening-accounted, opening-noted, opening-took, opening-caused, opening-own, starting-at}
+use Rattle.cqs_work.proofs.Widths.{all-needed, drawn-kept, few-drawn, nothing-drew, waits-there}
 use Rattle.cqs_work.proofs.Quieting.{at-rest, IsEvenOwn, even-then, quiet-at}
 
 -- a caller that is unnamed has nothing that isn't behind it
@@ -404,6 +407,30 @@ module _ {F : Type 0} (shared : F → Shared) (plan : Plan) (floors : List F) (p
                   omega (arith, most, left, begun, took-is at permits),
                 )
 
+          -- the numbers that it drew
+          pub drew-by : (at round : ℕ) → own_drawn (shared before).number (seen_at final at) round
+              ≤ sum_of_takes (is_own (length floors) i) (waits_of_job at) 0 plan.jobs
+          drew-by at round =
+              let long : length (stages_of it.states) ≡ length plan.jobs
+              = length-map it.states (λ (s : JobState). stage_of s) ∙ it.starts.long in
+              let needs = all-needed plan (length floors) i at (stages_of it.states) long
+              (starting-at plan (length floors) i it.states it.starts) in
+              let begun = nothing-drew (shared before).number (seen_at (shared before) at) round
+              (it.opens.unnamed at (shared before).number (inl refl)) in
+              let all : own_drawn (shared before).number (seen_at final at) round ≡ drew (shared after) at round
+              = ap (λ n. own_drawn n (seen_at final at) round) (sym number-is)
+              ∙ drawn-kept (shared after).number (seen_at (shared after) at) (seen_at final at) round (kept.mine at) in
+              omega (
+                arith,
+                all,
+                begun,
+                needs,
+                it.works.turns.later.room at round,
+                it.works.closing.later.room at round,
+                it.works.keeps.room at,
+                it.works.went.room at,
+              )
+
           -- what stands behind the ends of its jobs
           pub cause-by : (place : ℕ) (job : Job) (s : Stage) → slice_get plan.jobs place ≡ Some job
               → slice_get (stages_of states) place ≡ Some s
@@ -421,6 +448,26 @@ module _ {F : Type 0} (shared : F → Shared) (plan : Plan) (floors : List F) (p
               (seeing_all (shared before) final (heard (desk (shared after) waits untold) [])) kept.before
               (sym number-is)
               (sym (it.works.closing.later.same.limits ∙ it.works.turns.later.same.limits)) refl refl s.progress now
+
+        few_by : AreFew plan final
+        few_by = record {
+          at = λ at round. few-drawn (length floors) at plan.jobs (seen_at final at) round some (unnamed-past at)
+              (λ c below. most at round c below);
+        }
+          where
+            some : 0 < length floors
+            some = omega (arith, workers-are)
+
+            most : (at round c : ℕ) → c < length floors → own_drawn c (seen_at final at) round
+                ≤ sum_of_takes (is_own (length floors) c) (waits_of_job at) 0 plan.jobs
+            most at round c below =
+                let first : (f : F) × (slice_get floors c ≡ Some f) = get-there floors c below in
+                let it = went c first.0 first.1 in
+                let kept : IsKeptIn final (shared it.0) = kept-at c it.0 (ap (λ l. slice_get l c) (sym is) ∙ it.3) in
+                let number : (shared first.0).number ≡ c = it.6.opens.number in
+                subst (λ n. own_drawn n (seen_at final at) round
+                ≤ sum_of_takes (is_own (length floors) c) (waits_of_job at) 0 plan.jobs) number
+                (drew-by c first.0 it.0 it.1 it.2 it.6 kept at round)
 
         crew-named : (at n : ℕ) → IsUnnamed n (seen_at final at)
             ⊎ ((i : ℕ) × (f : Shared) × (slice_get (map shared floors) i ≡ Some f) × (n ≡ f.number))
@@ -570,6 +617,28 @@ module _ {F : Type 0} (shared : F → Shared) (plan : Plan) (floors : List F) (p
                 subst (λ n. IsTold plan n i f final ends lines) (sym many) its;
           }
 
+          -- none of whose jobs was turned away, where the limits are above what they ask for
+          uncrowded_by : AreWide plan (map shared floors) → AreUncrowded plan ends
+          uncrowded_by wide place below crowded =
+              let job : (job : Job) × (slice_get plan.jobs place ≡ Some job) = get-there plan.jobs place below in
+              let worker : ℕ = place % length floors in
+              let first : (f : F) × (slice_get floors worker ≡ Some f)
+              = get-there floors worker (mod-lt place (omega (arith, workers-are))) in
+              let its = told-at worker first.0 first.1 in
+              let cause : WasCrowded job.0 (seeing_all (shared first.0) final its.end)
+              = subst (HasCause job.0 place (seeing_all (shared first.0) final its.end)) crowded
+              (its.causes place job.0 job.1 refl) in
+              let there : cause.at < length (kinds_of plan.resources)
+              = waits-there (kinds_of plan.resources) _ _ cause.step cause.at cause.waits
+              ((runnable.steps.at place job.0 job.1).at cause.its_step.place cause.step cause.its_step.there) in
+              omega (
+                arith,
+                cause.worn,
+                few_by.at cause.at cause.round,
+                wide.at worker (shared first.0) cause.at (get-map shared floors worker first.0 first.1)
+                    (omega (arith, there, length-map plan.resources (λ (r : Resource). r.kind))),
+              )
+
           -- and what its gate was told
           gated-at : (i : ℕ) (before : F) → slice_get floors i ≡ Some before
               → IsGated plan (length floors) i (shared before) final ends lines (tells i)
@@ -632,6 +701,23 @@ module _ {F : Type 0} (shared : F → Shared) (plan : Plan) (floors : List F) (p
           go : (list : List F) → lefts ≡ list → AreTold plan (map shared floors) final ends lines
           go [] is = absurd (nothing-left is)
           go (first ∷ rest) is = all-told_by first rest is final (met-by first rest is) ends are lines lined
+
+      pub all-few : AreFew plan final
+      all-few = go lefts refl
+        where
+          go : (list : List F) → lefts ≡ list → AreFew plan final
+          go [] is = absurd (nothing-left is)
+          go (first ∷ rest) is = few_by first rest is final (met-by first rest is)
+
+      pub all-uncrowded : (ends : List JobEnd) → AreEnds (length plan.jobs) own ends → (lines : List WaitLine)
+          → AreLines (kinds_of plan.resources) (flat_map (λ l. l) told) (length plan.resources) lines
+          → AreWide plan (map shared floors) → AreUncrowded plan ends
+      all-uncrowded ends are lines lined wide = go lefts refl
+        where
+          go : (list : List F) → lefts ≡ list → AreUncrowded plan ends
+          go [] is = absurd (nothing-left is)
+          go (first ∷ rest) is =
+              uncrowded_by first rest is final (met-by first rest is) ends are lines lined wide
 
       pub all-gated : (ends : List JobEnd) → AreEnds (length plan.jobs) own ends → (lines : List WaitLine)
           → AreLines (kinds_of plan.resources) (flat_map (λ l. l) told) (length plan.resources) lines

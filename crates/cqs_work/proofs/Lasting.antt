@@ -1,5 +1,5 @@
 -- What calls leave of a floor, whatever they are.
-use Rattle.std.proofs.Common.{◌≡◌, ◌≢◌, ◌⊎◌, inl, inr, ℕ, ◌<◌, ◌≤◌, List, [], ◌++◌, length, set, get_or, slice_get, refl, sym, ap, subst, ◌∙◌, arith}
+use Rattle.std.proofs.Common.{◌≡◌, ◌≢◌, ◌⊎◌, inl, inr, ℕ, ◌+◌, ◌<◌, ◌≤◌, List, [], ◌++◌, length, set, get_or, slice_get, refl, sym, ap, subst, ◌∙◌, arith}
 use Rattle.std.proofs.lemmas.Bool.{cases_eq, cases_lt}
 use Rattle.std.proofs.lemmas.List.{length-set, get_or-set_same, get_or-set_other, get_or_past}
 use Rattle.std.proofs.lemmas.List.Elements.{filter-append}
@@ -15,7 +15,9 @@ use Rattle.cqs_barrier_object.specs.BarrierNames.{entry_names as party_names}
 use Rattle.cqs_plan.specs.FloorHistory.{History, of_permits, of_elements, of_latch, of_rounds, entries_in}
 use Rattle.cqs_floor_shared.specs.Entries.{Entries, at_permits, at_elements, at_latch, in_round, with_entries, own_entries, none_of, IsBefore}
 use Rattle.cqs_floor_shared.specs.Shared.{Shared, Sees, IsLegalAt, seen_at}
+use Rattle.cqs_plan.specs.Floor.{room_at}
 use Rattle.cqs_work.specs.Accounts.{IsAccounted}
+use Rattle.cqs_work.specs.Drawn.{drew}
 use Rattle.cqs_work.specs.Later.{IsUnnamed, IsSound, Later}
 use Rattle.cqs_work.proofs.Growing.{before-itself, before-through, before-with}
 
@@ -32,7 +34,7 @@ seen-else f at entries g sees q other =
     ap (λ l. get_or l q (of_permits [])) sees.seen
     ∙ get_or-set_other f.seen at q (with_entries (seen_at f at) sees.more) (of_permits []) other
 
-seen-past : (f : Shared) (at : ℕ) (entries : Entries) (g : Shared) → Sees f at entries g → length f.seen ≤ at
+pub seen-past : (f : Shared) (at : ℕ) (entries : Entries) (g : Shared) → Sees f at entries g → length f.seen ≤ at
     → seen_at g at ≡ seen_at f at
 seen-past f at entries g sees past =
     let long : length (set f.seen at (with_entries (seen_at f at) sees.more)) ≤ at
@@ -152,14 +154,16 @@ sees-sound f at entries g sees kinds sound = record {
 
 -- a call
 pub sees-later : (f : Shared) (at : ℕ) (entries : Entries) (g : Shared) → Sees f at entries g
-    → g.board.kinds ≡ f.board.kinds → (IsAccounted f → IsAccounted g) → Later f g
-sees-later f at entries g sees kinds accounted = record {
+    → g.board.kinds ≡ f.board.kinds → (IsAccounted f → IsAccounted g)
+    → ((q round : ℕ) → drew g q round + room_at g.board q ≤ drew f q round + room_at f.board q) → Later f g
+sees-later f at entries g sees kinds accounted room = record {
   same = sees.same;
   kinds = kinds;
   before = seen-all (λ q h. IsBefore (seen_at f q) h) f at entries g sees (before-with (seen_at f at) sees.more)
       (λ q. before-itself (seen_at f q));
   sound = sees-sound f at entries g sees kinds;
   accounted = accounted;
+  room = room;
 }
 
 -- no call
@@ -170,6 +174,7 @@ later-none f = record {
   before = λ at. before-itself (seen_at f at);
   sound = λ sound. sound;
   accounted = λ accounted. accounted;
+  room = λ at round. omega arith;
 }
 
 -- some calls, and then others
@@ -186,4 +191,5 @@ later-then f g k first second = record {
   before = λ at. before-through (seen_at f at) (seen_at g at) (seen_at k at) (first.before at) (second.before at);
   sound = λ sound. second.sound (first.sound sound);
   accounted = λ accounted. second.accounted (first.accounted accounted);
+  room = λ at round. omega (arith, first.room at round, second.room at round);
 }

@@ -1,10 +1,10 @@
 -- What a worker came to and has no more over a leave: a wait that is gone is lost, and one that was late came.
-use Rattle.std.proofs.Common.{◌≡◌, ◌≢◌, ℕ, ◌+◌, Bool, true, false, Option, Some, None, set, slice_get, sum_by, refl, ap, ◌∙◌, arith}
+use Rattle.std.proofs.Common.{◌≡◌, ◌≢◌, ℕ, ◌+◌, Bool, true, false, Option, Some, None, set, get_or, slice_get, sum_by, refl, ap, ◌∙◌, arith}
 use Rattle.cqs_plan.specs.declared.floors.answers.FloorLeave.{FloorLeave}
 use Rattle.cqs_plan.specs.declared.floors.answers.FloorLeave.TheVariants.{Gone, Late}
 use Rattle.cqs_plan.specs.declared.plans.kind.Kind.{Kind}
 use Rattle.cqs_plan.specs.declared.plans.kind.Kind.TheVariants as kind
-use Rattle.cqs_plan.specs.Floor.{PlainFloor, JobWait, IsJob, IsHoldable, wait_of}
+use Rattle.cqs_plan.specs.Floor.{PlainFloor, JobWait, IsJob, IsHoldable, room_at, wait_of}
 use Rattle.cqs_plan.specs.FloorCalls.{after_leave, with_left}
 use Rattle.cqs_plan.specs.FloorHistory.{is_late}
 use Rattle.cqs_floor_shared.specs.Entries.{Entries}
@@ -13,6 +13,7 @@ use Rattle.cqs_floor_shared.specs.Shared.{Shared, kind_at, came_of}
 use Rattle.cqs_floor_shared.specs.Calls.{Leaves, IsLate}
 use Rattle.cqs_work.specs.Accounts.{gains, losses, doors, enters, sum_of, waits_at, held_at, count_at}
 use Rattle.cqs_work.specs.Later.{Later}
+use Rattle.cqs_work.proofs.Draws.{left-none, left-room}
 use Rattle.cqs_work.proofs.LookAccounts.{came-else, came-here, came-kinds, wait-gone}
 use Rattle.cqs_work.proofs.Accounts.{later-by, one-else, one-here}
 
@@ -113,3 +114,12 @@ leave-later f job wait got g leaves is_job waits =
     ))
     (λ q other. ap (λ b. count_at b q) leaves.board ∙ left-else f.board job wait is_job waits got q other)
     (left-doors (came_of f job) k wait.round f.number wait.number got leaves.stays)
+    (λ r. omega (
+      arith,
+      left-none (came_of f job) k wait.round f.number wait.number got leaves.stays r,
+      room wait.at,
+    ))
+    (λ q other. omega (arith, room q))
+  where
+    room : (q : ℕ) → room_at g.board q ≡ room_at f.board q
+    room q = ap (λ b. room_at b q) leaves.board ∙ ap (λ l. get_or l q 0) (left-room f.board job got)

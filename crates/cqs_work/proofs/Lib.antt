@@ -2,6 +2,7 @@ pub mod Growing
 pub mod Lasting
 pub mod Nothing
 pub mod Leaving
+pub mod Draws
 pub mod Accounts
 pub mod LookAccounts
 pub mod LeaveAccounts
@@ -37,4 +38,5 @@ pub mod Rowing
 pub mod Entering
 pub mod Crews
 pub mod Bounding
+pub mod Widths
 pub mod Joining

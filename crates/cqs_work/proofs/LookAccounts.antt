@@ -1,5 +1,5 @@
 -- What a worker came to and has no more over a look at a wait.
-use Rattle.std.proofs.Common.{◌≡◌, ◌≢◌, ℕ, ◌+◌, ◌==◌, Bool, true, false, List, [], ◌∷◌, ◌++◌, Option, Some, None, set, slice_get, sum_by, refl, ap, ◌∙◌, arith}
+use Rattle.std.proofs.Common.{◌≡◌, ◌≢◌, ℕ, ◌+◌, ◌==◌, Bool, true, false, List, [], ◌∷◌, ◌++◌, Option, Some, None, set, get_or, slice_get, sum_by, refl, ap, ◌∙◌, arith}
 use Rattle.std.specs.Bool.{if◌then◌else◌}
 use Rattle.std.specs.Option.{option_map_or}
 use Rattle.cqs_plan.specs.declared.floors.answers.FloorLook.{FloorLook}
@@ -7,7 +7,7 @@ use Rattle.cqs_plan.specs.declared.floors.answers.FloorLook.TheVariants.{Pending
 use Rattle.cqs_plan.specs.declared.plans.kind.Kind.{Kind}
 use Rattle.cqs_plan.specs.declared.plans.kind.Kind.TheVariants as kind
 use Rattle.cqs_plan.specs.Language.{can_hold}
-use Rattle.cqs_plan.specs.Floor.{PlainFloor, JobWait, Holding, IsJob, IsHoldable, holds_of, wait_of, is_holdable, with_done_in, with_wait}
+use Rattle.cqs_plan.specs.Floor.{PlainFloor, JobWait, Holding, IsJob, IsHoldable, holds_of, wait_of, is_holdable, room_at, with_done_in, with_wait}
 use Rattle.cqs_plan.specs.FloorCalls.{after_look, with_granted}
 use Rattle.cqs_plan.specs.FloorHistory.{Deed, gets}
 use Rattle.cqs_floor_shared.specs.Entries.{Entries}
@@ -16,6 +16,7 @@ use Rattle.cqs_floor_shared.specs.Shared.{Shared, kind_at, came_of}
 use Rattle.cqs_floor_shared.specs.Calls.{Looks}
 use Rattle.cqs_work.specs.Accounts.{gains, losses, doors, enters, sum_of, waits_at, held_at, count_at}
 use Rattle.cqs_work.specs.Later.{Later}
+use Rattle.cqs_work.proofs.Draws.{looked-none, looked-room}
 use Rattle.cqs_work.proofs.Accounts.{held-newest, holds-set, later-by, one, one-else, one-here, waits-set}
 
 -- what was waited for came
@@ -150,3 +151,12 @@ look-later f job wait got g looks is_job waits =
       looked-here f.board job wait is_job waits got holdable,
     ))
     (λ q other. ap (λ b. count_at b q) looks.board ∙ looked-else f.board job wait is_job waits got q other) adds.entered
+    (λ r. omega (
+      arith,
+      looked-none (came_of f job) (kind_at f wait.at) wait.round f.number wait.number got r,
+      room wait.at,
+    ))
+    (λ q other. omega (arith, room q))
+  where
+    room : (q : ℕ) → room_at g.board q ≡ room_at f.board q
+    room q = ap (λ b. room_at b q) looks.board ∙ ap (λ l. get_or l q 0) (looked-room f.board job got)

@@ -99,7 +99,7 @@ part-some {E} names c (x ∷ h) (suc i) e got named none = go (names c x)
     go true later empty = absurd (cc)
     go false later empty = later empty
 
-names-below : {E : Type 0} (names : ℕ → E → Bool) (callers : ℕ) (h : List E)
+pub names-below : {E : Type 0} (names : ℕ → E → Bool) (callers : ℕ) (h : List E)
     → ((n : ℕ) → callers ≤ n → part names n h ≡ []) → NamesBelow names callers h
 names-below {E} names callers h unnamed = record {
   at = λ i c e got named. go c e i got named (cases_lt c callers);

@@ -42,6 +42,7 @@ use Rattle.cqs_work.specs.Roles.{left_so, go_on, patiently}
 use Rattle.cqs_work.specs.Stages.{Stage, stage, unused, retries_for}
 use Rattle.cqs_work.specs.Takes.{takes_in}
 use Rattle.cqs_work.specs.Doing.{AreSameBut, CanAct, HasTurn, Did, HadTurn}
+use Rattle.cqs_work.proofs.Draws.{left-room}
 use Rattle.cqs_work.proofs.Adding.{call-keeps, left-plain}
 use Rattle.cqs_work.proofs.Causing.{takes-next}
 use Rattle.cqs_work.proofs.HeardLemmas.{left-is}
@@ -323,7 +324,7 @@ module _ (a : Actor) (f g : Desk) (next at round number : ℕ) (x : Patience)
     keeps : Keeps f g
     keeps = call-keeps f at _ g leaves.sees kinds
         (left-plain (came_of f.floor a.place) (kind_at f.floor at) round f.floor.number number Gone leaves.stays) waits
-        leaves.came
+        leaves.came (ap (λ c. c.room) leaves.board ∙ left-room f.floor.board a.place Gone)
 
     taken-before : (at : ℕ) → takes_in at (take (next - 1) steps) ≤ takes_in at (take next steps)
     taken-before at =

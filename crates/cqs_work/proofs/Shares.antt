@@ -17,7 +17,7 @@ over-same (suc n) f g same =
     let before : over_callers n f ≡ over_callers n g = over-same n f g (λ c below. same c (omega (arith, below))) in
     omega (arith, here, before)
 
-over-plus : (n : ℕ) (f g : ℕ → ℕ) → over_callers n (λ c. f c + g c) ≡ over_callers n f + over_callers n g
+pub over-plus : (n : ℕ) (f g : ℕ → ℕ) → over_callers n (λ c. f c + g c) ≡ over_callers n f + over_callers n g
 over-plus zero f g = refl
 over-plus (suc n) f g = omega (arith, over-plus n f g)
 

@@ -39,7 +39,7 @@ use Rattle.cqs_work.proofs.Moving.{moves-past, moves-on, moves-turned, moves-tak
 use Rattle.cqs_work.specs.Needs.{IsPartyPlace, CanGoBackIn}
 use Rattle.cqs_work.proofs.GoingBack.{take-back, wait-back, arrive-back}
 use Rattle.cqs_work.proofs.Parties.{party-place, place-stays}
-use Rattle.cqs_work.proofs.StepNeeds.{made-count, party-some, steps-split, step-ready, step-provided, step-room, rounds-kept, take-resource, wait-resource, give-resource, give-holds}
+use Rattle.cqs_work.proofs.StepNeeds.{made-count, party-some, steps-split, step-ready, step-provided, step-room, rounds-kept, take-resource, take-room, wait-resource, wait-room, give-resource, give-holds}
 use Rattle.cqs_work.proofs.StepAdds.{stop_of, adds-plain, latch-else, round-else, latch-some, round-some, take-adds, else-adds}
 
 -- what the job did with a step
@@ -85,7 +85,7 @@ take-by a f g next at (Some (Now element)) can its_step comes waits told =
     did a f next (Take at) can its_step (take_step a next at) (made_so None) g (Stepping (next + 1))
     (record {
       later = take-later f.floor at a.place _ g.floor comes (take-resource a f.floor next at can its_step)
-          can.stands.ready.job can.stands.ready.waits;
+          can.stands.ready.job can.stands.ready.waits (take-room a f.floor next at can its_step);
       answers = answer.come (Some (Now element)) comes.drew comes.with_it ∷ [];
       told = told;
       plays = λ more. ap (made_so None) (came-is f at 0 a.place b f.floor.parties
@@ -108,7 +108,7 @@ take-by a f g next at (Some (Waits number)) can its_step comes waits told =
     (Waiting (next + 1) at 0 number)
     (record {
       later = take-later f.floor at a.place _ g.floor comes (take-resource a f.floor next at can its_step)
-          can.stands.ready.job can.stands.ready.waits;
+          can.stands.ready.job can.stands.ready.waits (take-room a f.floor next at can its_step);
       answers = answer.come (Some (Waits number)) comes.drew comes.with_it ∷ [];
       told = told;
       plays = λ more. ap (made_so (Some (Waiting (next + 1) at 0 number)))
@@ -131,7 +131,7 @@ take-by a f g next at None can its_step comes waits told =
     did a f next (Take at) can its_step (take_step a next at) (made_so (Some (Ended end.Crowded))) g (Ended end.Crowded)
     (record {
       later = take-later f.floor at a.place _ g.floor comes (take-resource a f.floor next at can its_step)
-          can.stands.ready.job can.stands.ready.waits;
+          can.stands.ready.job can.stands.ready.waits (take-room a f.floor next at can its_step);
       answers = answer.come None comes.drew comes.with_it ∷ [];
       told = told;
       plays = λ more. ap (made_so (Some (Ended end.Crowded))) (came-is f at 0 a.place b f.floor.parties None g comes
@@ -173,7 +173,7 @@ wait-by a f g next at (Some (Now element)) can its_step comes waits told =
     did a f next (Await at) can its_step (wait_step a next at) (made_so None) g (Stepping (next + 1))
     (record {
       later = wait-later f.floor at a.place _ g.floor comes (wait-resource a f.floor next at can its_step)
-          can.stands.ready.job can.stands.ready.waits;
+          can.stands.ready.job can.stands.ready.waits (wait-room a f.floor next at can its_step);
       answers = answer.come (Some (Now element)) comes.drew comes.with_it ∷ [];
       told = told;
       plays = λ more. ap (made_so None) (came-is f at 0 a.place b f.floor.parties
@@ -198,7 +198,7 @@ wait-by a f g next at (Some (Waits number)) can its_step comes waits told =
     (Waiting (next + 1) at 0 number)
     (record {
       later = wait-later f.floor at a.place _ g.floor comes (wait-resource a f.floor next at can its_step)
-          can.stands.ready.job can.stands.ready.waits;
+          can.stands.ready.job can.stands.ready.waits (wait-room a f.floor next at can its_step);
       answers = answer.come (Some (Waits number)) comes.drew comes.with_it ∷ [];
       told = told;
       plays = λ more. ap (made_so (Some (Waiting (next + 1) at 0 number)))
@@ -224,7 +224,7 @@ wait-by a f g next at None can its_step comes waits told =
     (Ended end.Crowded)
     (record {
       later = wait-later f.floor at a.place _ g.floor comes (wait-resource a f.floor next at can its_step)
-          can.stands.ready.job can.stands.ready.waits;
+          can.stands.ready.job can.stands.ready.waits (wait-room a f.floor next at can its_step);
       answers = answer.come None comes.drew comes.with_it ∷ [];
       told = told;
       plays = λ more. ap (made_so (Some (Ended end.Crowded))) (came-is f at 0 a.place b f.floor.parties None g comes
@@ -307,7 +307,8 @@ module _ (a : Actor) (f : Desk) (next at : ℕ) (can : CanAct a f.floor (Steppin
       let b : PlainFloor = after_arrive f.floor.board at a.place (Now element) in
       did a f next (Arrive at) can its_step (arrive_step a next at) (made_so None) g (Stepping (next + 1))
       (record {
-        later = arrive-later f.floor at a.place _ g.floor comes arrives-in can.stands.ready.job can.stands.ready.waits;
+        later = arrive-later f.floor at a.place _ g.floor comes arrives-in can.stands.ready.job can.stands.ready.waits
+            arrive-room;
         answers = answer.come (Some (Now element)) comes.drew comes.with_it ∷ [];
         told = told;
         plays = λ more. ap (made_so None) (came-is f at round a.place b _ (Some (Now element)) g comes waits more);
@@ -328,7 +329,8 @@ module _ (a : Actor) (f : Desk) (next at : ℕ) (can : CanAct a f.floor (Steppin
       did a f next (Arrive at) can its_step (arrive_step a next at)
       (made_so (Some (Waiting (next + 1) at round number))) g (Waiting (next + 1) at round number)
       (record {
-        later = arrive-later f.floor at a.place _ g.floor comes arrives-in can.stands.ready.job can.stands.ready.waits;
+        later = arrive-later f.floor at a.place _ g.floor comes arrives-in can.stands.ready.job can.stands.ready.waits
+            arrive-room;
         answers = answer.come (Some (Waits number)) comes.drew comes.with_it ∷ [];
         told = told;
         plays = λ more. ap (made_so (Some (Waiting (next + 1) at round number)))
@@ -353,7 +355,8 @@ module _ (a : Actor) (f : Desk) (next at : ℕ) (can : CanAct a f.floor (Steppin
       did a f next (Arrive at) can its_step (arrive_step a next at) (made_so (Some (Ended end.Crowded))) g
       (Ended end.Crowded)
       (record {
-        later = arrive-later f.floor at a.place _ g.floor comes arrives-in can.stands.ready.job can.stands.ready.waits;
+        later = arrive-later f.floor at a.place _ g.floor comes arrives-in can.stands.ready.job can.stands.ready.waits
+            arrive-room;
         answers = answer.come None comes.drew comes.with_it ∷ [];
         told = told;
         plays = λ more. ap (made_so (Some (Ended end.Crowded))) (came-is f at round a.place b _ None g comes waits
@@ -413,7 +416,7 @@ down-did a f g next at got can its_step downs waits told =
     (drop (next + 1) a.job.now.steps)))
     (adds-plain a f g next (Down at) (Stepping (next + 1)) its_step refl (λ q. refl) tt
     (call-keeps f at _ g downs.sees (ap (λ c. c.kinds) downs.board)
-    (counted-plain f.floor.number got) waits downs.came))
+    (counted-plain f.floor.number got) waits downs.came (ap (λ c. c.room) downs.board)))
     tt
 
 -- a give
@@ -422,6 +425,7 @@ pub given-keeps : (place : ℕ) (f g : Desk) (at : ℕ) (got : SharedGive) → G
 given-keeps place f g at got gives waits =
     call-keeps f at _ g gives.sees (ap (λ c. c.kinds) gives.board)
     (given-plain (kind_at f.floor at) f.floor.number (element_held f.floor.board at place) got) waits gives.came
+    (ap (λ c. c.room) gives.board)
 
 pub give-did : (a : Actor) (f g : Desk) (next at : ℕ) (got : SharedGive) → CanAct a f.floor (Stepping next)
     → slice_get a.job.now.steps next ≡ Some (Give at) → Gives f.floor at a.place got g.floor → g.waits ≡ f.waits

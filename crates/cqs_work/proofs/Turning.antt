@@ -291,7 +291,7 @@ module _ (plan : Plan) (a : Actor) (f : Desk) (states : List JobState) (state : 
     job-went =
         subst (Went plan f (stages_of states) g) (sym stages-after)
         (went-one plan f g a.place (role a).job (stage_of state) (stage_of after) (stages_of states) acting.job
-        its-stage acts.hears.later acts.adds)
+        its-stage acts.hears.later acts.adds acts.moves.room)
 
     module _ (turn place : ℕ) (at_turn : (role a).turn ≡ turn) (there : (role a).place ≡ place) where
       pub one-job-heard : Hears f g (job_turn_so plan turn place (stages_of states))

@@ -26,6 +26,7 @@ use Rattle.cqs_work.specs.Later.{Later}
 use Rattle.cqs_work.specs.Noted.{IsNoted}
 use Rattle.cqs_work.specs.Causes.{IsInLine, IsCauseOf}
 use Rattle.cqs_work.specs.Adds.{Keeps}
+use Rattle.cqs_work.proofs.Draws.{left-room, looked-room}
 use Rattle.cqs_work.proofs.Growing.{served-stays}
 use Rattle.cqs_work.proofs.Leaving.{gone-told, late-told}
 use Rattle.cqs_work.proofs.Adding.{call-keeps, looked-plain, left-plain}
@@ -49,7 +50,7 @@ looked-keeps : (place : ℕ) (f g : Desk) (wait : JobWait) (got : FloorLook) →
 looked-keeps place f g wait got looks kinds waits =
     call-keeps f wait.at _ g looks.sees kinds
     (looked-plain (came_of f.floor place) (kind_at f.floor wait.at) wait.round f.floor.number wait.number got) waits
-    looks.came
+    looks.came (ap (λ b. b.room) looks.board ∙ looked-room f.floor.board place got)
 
 pub pending-did : (a : Actor) (f g : Desk) (next at round number : ℕ) (got : FloorLook)
     → CanAct a f.floor (Waiting next at round number) → HasLooked f.floor a.place got g.floor
@@ -179,7 +180,7 @@ leaves-line a f g at round number got stands left waits told =
       moves = rw (leaves.board, leaves.parties) moved;
       keeps = call-keeps f at _ g leaves.sees (ap (λ c. c.kinds) leaves.board ∙ moved.kinds)
           (left-plain (came_of f.floor a.place) (kind_at f.floor at) round f.floor.number number got leaves.stays) waits
-          leaves.came;
+          leaves.came (ap (λ b. b.room) leaves.board ∙ left-room f.floor.board a.place got);
     }
 
 pub leave-did : (a : Actor) (f g : Desk) (at round number : ℕ) (got : FloorLeave) (e : End)

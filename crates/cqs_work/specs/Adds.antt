@@ -1,8 +1,9 @@
 -- What the calls of a job add to what its worker has at hand.
-use Rattle.std.specs.Prelude.{◌≡◌, ◌≢◌, ℕ, List, [], ◌++◌, All}
+use Rattle.std.specs.Prelude.{◌≡◌, ◌≢◌, ◌≤◌, ℕ, List, [], ◌++◌, All}
 use Rattle.cqs_plan.specs.declared.plans.job.Job.{Job}
 use Rattle.cqs_turns_report.specs.declared.states.Progress.{Progress}
 use Rattle.cqs_turns_report.specs.declared.states.Progress.TheVariants.{Stepping, Working, Waiting, Ended}
+use Rattle.cqs_plan.specs.Floor.{room_at}
 use Rattle.cqs_floor_shared.specs.Shared.{kind_at, came_of}
 use Rattle.cqs_work.specs.declared.waits.Waited.{Waited}
 use Rattle.cqs_work.specs.Desk.{Desk}
@@ -41,10 +42,11 @@ abbrev pub AddsInTurn : Job → ℕ → Desk → Stage → Desk → Stage → Ty
 AddsInTurn job place f s g q = AddsSo job place f s.progress g q.progress
     (λ at. TalliesInTurn at job (took f.floor at) s (took g.floor at) q)
 
--- a job made no step, and was told no wait
+-- a job made no step, was told no wait, and used up no room
 pub record Keeps (f g : Desk) : Type 0 where
   pub waits : g.waits ≡ f.waits
   pub came : (j : ℕ) → came_of g.floor j ≡ came_of f.floor j
   pub noted : IsNoted f → IsNoted g
   pub tally : IsNoted f → (at : ℕ) → HasPermits (kind_at f.floor at)
       → took g.floor at ≡ took f.floor at
+  pub room : (at : ℕ) → room_at f.floor.board at ≤ room_at g.floor.board at

@@ -2,10 +2,11 @@
 use Rattle.std.specs.Prelude.{◌≡◌, ℕ, ◌+◌, ◌≤◌, Bool, List, ◌++◌, All, Some, length, slice_get, if◌then◌else◌}
 use Rattle.cqs_plan.specs.declared.plans.job.Job.{Job}
 use Rattle.cqs_plan.specs.declared.plans.plan.Plan.{Plan}
+use Rattle.cqs_plan.specs.Floor.{room_at}
 use Rattle.cqs_floor_shared.specs.Shared.{kind_at}
 use Rattle.cqs_work.specs.declared.waits.Waited.{Waited}
 use Rattle.cqs_work.specs.Desk.{Desk}
-use Rattle.cqs_work.specs.Needs.{sum_of_needs}
+use Rattle.cqs_work.specs.Needs.{room_needed, sum_of_needs}
 use Rattle.cqs_work.specs.Noted.{HasPermits, IsNoted}
 use Rattle.cqs_work.specs.Takes.{takes_made, takes_left, took}
 use Rattle.cqs_work.specs.Causes.{IsCaused}
@@ -34,7 +35,7 @@ left_by at place job s = takes_left at job.steps s.progress + retries_for (is_ta
 
 -- The jobs came from as far as `before` to as far as `now`. More waits were told to jobs that
 -- hadn't ended; the takes of the pass are at least those that any of the jobs made, and at most
--- those that all could make.
+-- those that all could make. The room fell by no more than what all have need of no more.
 pub record Went (plan : Plan) (f : Desk) (before : List Stage) (g : Desk) (now : List Stage)
     : Type 0 where
   pub long : length now ≡ length before
@@ -51,3 +52,6 @@ pub record Went (plan : Plan) (f : Desk) (before : List Stage) (g : Desk) (now :
       → took g.floor at + sum_of_needs (left_by at) 0 plan.jobs now
       ≤ took f.floor at + sum_of_needs (left_by at) 0 plan.jobs before
   pub caused : IsNoted f → AreCaused plan f before → AreCaused plan g now
+  pub room : (at : ℕ)
+      → room_at f.floor.board at + sum_of_needs (room_needed at) 0 plan.jobs now
+      ≤ room_at g.floor.board at + sum_of_needs (room_needed at) 0 plan.jobs before

@@ -1,5 +1,5 @@
 -- What a worker's calls leave of its floor, whatever they are.
-use Rattle.std.specs.Prelude.{◌≡◌, ◌≤◌, ℕ, []}
+use Rattle.std.specs.Prelude.{◌≡◌, ◌+◌, ◌≤◌, ℕ, []}
 use Rattle.cqs_core.specs.Parts.{part}
 use Rattle.cqs_core.specs.SemaphoreNames.{entry_names as permit_names}
 use Rattle.cqs_pool_object.specs.PoolNames.{entry_names as element_names}
@@ -8,7 +8,9 @@ use Rattle.cqs_barrier_object.specs.BarrierNames.{entry_names as party_names}
 use Rattle.cqs_plan.specs.FloorHistory.{History, of_permits, of_elements, of_latch, of_rounds, entries_in}
 use Rattle.cqs_floor_shared.specs.Entries.{IsBefore}
 use Rattle.cqs_floor_shared.specs.Shared.{Shared, IsSame, IsLegalAt, seen_at}
+use Rattle.cqs_plan.specs.Floor.{room_at}
 use Rattle.cqs_work.specs.Accounts.{IsAccounted}
+use Rattle.cqs_work.specs.Drawn.{drew}
 
 -- no entry names the caller n, in no round
 abbrev pub IsUnnamed : ℕ → History → Type 0
@@ -29,3 +31,6 @@ pub record Later (f g : Shared) : Type 0 where
   pub before : (at : ℕ) → IsBefore (seen_at f at) (seen_at g at)
   pub sound : IsSound f → IsSound g
   pub accounted : IsAccounted f → IsAccounted g
+  -- each number that the pass drew used up room for one
+  pub room : (at round : ℕ)
+      → drew g at round + room_at g.board at ≤ drew f at round + room_at f.board at

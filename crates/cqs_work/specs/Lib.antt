@@ -1,5 +1,6 @@
 pub mod Even
 pub mod Accounts
+pub mod Drawn
 pub mod Later
 pub mod Gated
 pub mod Desk

@@ -1,5 +1,5 @@
 -- What workers leave of a plan.
-use Rattle.std.specs.Prelude.{◌≡◌, ℕ, ◌%◌, ◌<◌, ◌≤◌, ◌==◌, ◌&&◌, Bool, List, ◌++◌, true, [], length, map, AllPairs, Some, Result, Ok, slice_get, slice_index_or}
+use Rattle.std.specs.Prelude.{◌≡◌, ◌≢◌, ℕ, ◌%◌, ◌<◌, ◌≤◌, ◌==◌, ◌&&◌, Bool, List, ◌++◌, true, [], length, map, AllPairs, Some, Result, Ok, slice_get, slice_index_or}
 use Rattle.cqs_core.specs.Numbered.{EachAt}
 use Rattle.cqs_core.specs.SemaphoreEntries.{object_after}
 use Rattle.cqs_core.specs.declared.Memory.{Memory}
@@ -15,7 +15,7 @@ use Rattle.cqs_floor_shared.specs.Calls.{HaveAllMet, IsAtRest}
 use Rattle.cqs_floor_shared.specs.Entries.{own_history}
 use Rattle.cqs_floor_shared.specs.Shared.{Shared, IsLegalAt, kind_at, seen_at}
 use Rattle.cqs_work.specs.declared.ends.JobEnd.{JobEnd}
-use Rattle.cqs_work.specs.declared.ends.JobEnd.TheVariants.{Unfinished}
+use Rattle.cqs_work.specs.declared.ends.JobEnd.TheVariants.{Crowded, Unfinished}
 use Rattle.cqs_work.specs.declared.waits.WaitLine.{WaitLine}
 use Rattle.cqs_work.specs.declared.waits.Waited.{Waited}
 use Rattle.cqs_work.specs.declared.works.Worker.{Worker}
@@ -98,6 +98,11 @@ pub record AreBounded (plan : Plan) (floors : List Shared) (final : Shared) (end
       ≤ sum_in takes f.number (seen_at final at))
       × (sum_in takes f.number (seen_at final at)
       ≤ take_tries (is_own (length floors) worker) at 0 plan.jobs)
+
+-- no job is crowded
+abbrev pub AreUncrowded : Plan → List JobEnd → Type 0
+AreUncrowded plan ends =
+    (place : ℕ) → place < length plan.jobs → end_at ends place ≢ Crowded
 
 -- what a worker's pass would have seen, had it seen all
 abbrev pub seeing_all : Shared → Shared → Heard → Desk

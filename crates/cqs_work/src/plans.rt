@@ -3,11 +3,12 @@
 ghost use Rattle.std.specs.Prelude.{◌≡◌, ◌<◌, ◌++◌, ◌∷◌, [], IfOk, OnOk, length, map, vec_len};
 ghost use Rattle.cqs_core.specs.Numbered.{EachAt};
 ghost use Rattle.cqs_plan.specs.Runnable.{IsRunnable};
+ghost use Rattle.cqs_work.specs.Drawn.{AreFew, AreWide};
 ghost use Rattle.cqs_work.specs.Ends.{job_end};
 ghost use Rattle.cqs_work.specs.Gated.{told_by};
 ghost use Rattle.cqs_work.specs.Met.{shared_of, CanMeetAll, HaveMetAll};
 ghost use Rattle.cqs_work.specs.Opening.{AreSplit};
-ghost use Rattle.cqs_work.specs.Worked.{AreParted, AreEnds, AreTold, AreGated, AreWaits, AreBounded, HaveAllIn, AreQuiet};
+ghost use Rattle.cqs_work.specs.Worked.{AreParted, AreEnds, AreTold, AreGated, AreWaits, AreBounded, AreUncrowded, HaveAllIn, AreQuiet};
 
 use crate::ends::{JobEnd, JobEnds};
 use crate::gate::Gate;
@@ -157,6 +158,12 @@ pub fn work_plan<R: Threads + Wait + Sync, F: SharedFloor + Send + Drop, G: Gate
     // of its jobs' take steps, with the retries of those that take there.
     ensures bounds { IfOk result (λ worked. AreBounded plan.now (shared_of F.shared floors.items)
         (F.shared worked.floor) worked.ends) }
+
+    // At each resource no more numbers were drawn, at a barrier in one round, than the plan's jobs
+    // may begin to wait there; so none is crowded where the limits are above that.
+    ensures few { IfOk result (λ worked. AreFew plan.now (F.shared worked.floor)) }
+    ensures uncrowded { IfOk result (λ worked. AreWide plan.now
+        (shared_of F.shared floors.items) → AreUncrowded plan.now worked.ends) }
 
     // No semaphore or mutex has anything held, on its way, at the door or in line, and no pool has
     // an element held or anybody in line.

@@ -1,6 +1,6 @@
 use Rattle.std.proofs.Common.{◌≡◌, length, map, sym, ap, ◌∙◌, arith}
 use Rattle.std.proofs.lemmas.List.{length-map}
-use Rattle.cqs_work.proofs.Joining.{all-run, lefts-long, own-long, states-long, can-meet, all-quiet, all-in, all-told, all-gated, vecs-long, ends-kept, lines-kept, all-waits, all-bounded}
+use Rattle.cqs_work.proofs.Joining.{all-run, lefts-long, own-long, states-long, can-meet, all-quiet, all-in, all-told, all-gated, vecs-long, ends-kept, lines-kept, all-waits, all-bounded, all-few, all-uncrowded}
 use Rattle.cqs_work.proofs.plans.work_plan.Goals as goal
 
 pub posts_for-requires-clause-some : goal.posts_for-requires-clause-some
@@ -133,6 +133,33 @@ returns-clause-bounds g c =
     (g.F.SharedFloor.shared c.meet_in_first-floor.result) c.meet_in_first-floor.ensures c.from-ends.result
     (ends-kept (λ own. own.items) c.as_slice-states.result.now vecs _ (length c.args.plan.now.jobs) _ c.from-ends.result
     c.as_slice-states.ensures.value (ap length c.as_slice-jobs.ensures) c.from-ends.ensures c.in_ok-ends.ensures)
+
+pub returns-clause-few : goal.returns-clause-few
+returns-clause-few g c =
+    let vecs = c.in_ok-parted.parted.states.items in
+    let long : length c.in_ok-all.all.items ≡ length c.in_ok-posts.posts.items
+    = sym c.in_ok-all.all.ok.0 ∙ c.in_ok-all.ensures.len ∙ c.in_ok-posts.posts.ok.0 in
+    all-few g.F.SharedFloor.shared c.args.plan.now c.args.floors.items c.in_ok-posts.posts.items c.requires.runnable
+    c.requires.split c.in_ok-posts.ensures c.in_ok-all.all.items c.in_ok-parted.parted.floors.items
+    (map (λ own. own.items) vecs) (map (λ own. own.items) c.in_ok-parted.parted.waits.items) long
+    c.in_ok-all.ensures.each c.in_ok-parted.ensures
+    (g.F.SharedFloor.shared c.meet_in_first-floor.result) c.meet_in_first-floor.ensures
+
+pub returns-clause-uncrowded : goal.returns-clause-uncrowded
+returns-clause-uncrowded g c wide =
+    let vecs = c.in_ok-parted.parted.states.items in
+    let long : length c.in_ok-all.all.items ≡ length c.in_ok-posts.posts.items
+    = sym c.in_ok-all.all.ok.0 ∙ c.in_ok-all.ensures.len ∙ c.in_ok-posts.posts.ok.0 in
+    all-uncrowded g.F.SharedFloor.shared c.args.plan.now c.args.floors.items c.in_ok-posts.posts.items
+    c.requires.runnable c.requires.split c.in_ok-posts.ensures c.in_ok-all.all.items c.in_ok-parted.parted.floors.items
+    (map (λ own. own.items) vecs) (map (λ own. own.items) c.in_ok-parted.parted.waits.items) long
+    c.in_ok-all.ensures.each c.in_ok-parted.ensures
+    (g.F.SharedFloor.shared c.meet_in_first-floor.result) c.meet_in_first-floor.ensures c.from-ends.result
+    (ends-kept (λ own. own.items) c.as_slice-states.result.now vecs _ (length c.args.plan.now.jobs) _ c.from-ends.result
+    c.as_slice-states.ensures.value (ap length c.as_slice-jobs.ensures) c.from-ends.ensures c.in_ok-ends.ensures)
+    c.from-waits.result
+    (lines-kept (λ own. own.items) c.args.plan.now.resources _ c.in_ok-parted.parted.waits.items _ _ c.from-waits.result
+    c.as_slice-resources.ensures c.as_slice.ensures.value c.from-waits.ensures c.in_ok-lines.ensures) wide
 
 pub returns-clause-quiet : goal.returns-clause-quiet
 returns-clause-quiet g c =

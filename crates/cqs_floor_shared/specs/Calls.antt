@@ -19,7 +19,7 @@ use Rattle.cqs_plan.specs.FloorHistory.{History, ending}
 use Rattle.cqs_floor_shared.specs.declared.shared.Turned.{Turned}
 use Rattle.cqs_floor_shared.specs.declared.shared.SharedGive.{SharedGive}
 use Rattle.cqs_floor_shared.specs.declared.shared.SharedGive.TheVariants as shared
-use Rattle.cqs_floor_shared.specs.Entries.{own_history, is_nothing, IsBefore, drawn_in, IsDelivered, EndsDelivered, AreOfPermits}
+use Rattle.cqs_floor_shared.specs.Entries.{own_history, is_nothing, IsBefore, drawn_in, IsDelivered, EndsDelivered, IsUnserved, HasGone, AreOfPermits}
 use Rattle.cqs_floor_shared.specs.AnswerEntries.{came_entries, give_entries, look_entries, leave_entries, unless_came, down_entries}
 use Rattle.cqs_floor_shared.specs.Shared.{Shared, Sees, IsLegalAt, seen_at, kind_at, parties_at, with_parties, came_of}
 
@@ -137,13 +137,15 @@ Arrives f at job answer g =
     (parties_arrived f at (round_of f.board job at) answer) answer g
 
 -- What is told of what was given back: which element it is; and of one that was sent, whose wait
--- got it, with the last entry of the call. Only a permit may be free, or sent for nothing: an
--- element is put into a cell in any case.
+-- got it, with the last entry of the call. To the number under which it was left nothing had been
+-- delivered by then, by this call or another; nor to one that was found gone, whose wait had left
+-- the line. Only a permit may be free, or sent for nothing: an element is put into a cell in any
+-- case.
 abbrev pub TellsGive : ℕ → SharedGive → History → Type 0
 TellsGive element (shared.Free e) seen = (e ≡ element) × AreOfPermits seen
 TellsGive element (shared.Sent e k) seen = (e ≡ element) × EndsDelivered seen k element
-TellsGive element (shared.Left e k) seen = e ≡ element
-TellsGive element (shared.Void k) seen = AreOfPermits seen
+TellsGive element (shared.Left e k) seen = (e ≡ element) × IsUnserved seen k
+TellsGive element (shared.Void k) seen = HasGone seen k × IsUnserved seen k
 
 pub record Gives (f : Shared) (at job : ℕ) (answer : SharedGive) (g : Shared) : Type 0 where
   pub sees : Sees f at (give_entries (kind_at f at) f.number (element_held f.board at job) answer) g

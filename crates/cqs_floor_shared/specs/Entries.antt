@@ -132,6 +132,17 @@ EndsDelivered (of_elements h) k e =
 EndsDelivered (of_latch h) k e = ⊥
 EndsDelivered (of_rounds all) k e = ⊥
 
+-- nothing was delivered to the number k
+abbrev pub IsUnserved : History → ℕ → Type 0
+IsUnserved h k = (e : ℕ) → IsDelivered h 0 k e → ⊥
+
+-- the wait of the number k left the line; a call that gives back finds none gone at another kind
+abbrev pub HasGone : History → ℕ → Type 0
+HasGone (of_permits h) k = (c : ℕ) × IsIn (permit.Leave c k) h
+HasGone (of_elements h) k = ⊥
+HasGone (of_latch h) k = ⊥
+HasGone (of_rounds all) k = ⊥
+
 -- the entries are those of permits
 abbrev pub AreOfPermits : History → Type 0
 AreOfPermits (of_permits h) = Unit {0}

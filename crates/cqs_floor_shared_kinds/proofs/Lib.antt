@@ -7,6 +7,9 @@ pub mod PermitAccounts
 pub mod PermitAnswers
 pub mod HeldPermits
 pub mod PermitLeaves
+pub mod Among
+pub mod PermitsServed
+pub mod ElementsServed
 pub mod PermitShares
 pub mod PermitMeets
 pub mod PermitSplits

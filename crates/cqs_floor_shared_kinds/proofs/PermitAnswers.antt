@@ -1,5 +1,5 @@
 -- What the answers of a semaphore or a mutex that workers share have as entries.
-use Rattle.std.proofs.Common.{◌≡◌, ℕ, ◌-◌, Bool, true, List, [], ◌∷◌, slice_index_or, sum_by, Option, Some, None, refl, ap, count_by}
+use Rattle.std.proofs.Common.{◌≡◌, ℕ, Bool, true, List, [], ◌∷◌, slice_index_or, sum_by, Option, Some, None, refl, ap, count_by}
 use Rattle.std.specs.Bool.{if◌then◌else◌}
 use Rattle.cqs_core.specs.declared.entries.Entry.{Entry}
 use Rattle.cqs_core.specs.declared.entries.Entry.TheVariants as entry
@@ -14,7 +14,6 @@ use Rattle.cqs_plan.specs.Floor.{size_of}
 use Rattle.cqs_plan.specs.FloorHistory.{of_permits}
 use Rattle.cqs_plan.specs.Language.{can_hold}
 use Rattle.cqs_plan.specs.LegalFloor.{IsHistory}
-use Rattle.cqs_semaphore.specs.declared.answers.Released.TheVariants.{Sent, Left, Void}
 use Rattle.cqs_semaphore.specs.Causes.{is_enter}
 use Rattle.cqs_floor_shared.specs.declared.shared.SharedGive.{SharedGive}
 use Rattle.cqs_floor_shared.specs.declared.shared.SharedGive.TheVariants as shared
@@ -144,7 +143,7 @@ pub sent-tells : (answer : SharedGive) (seen : List Entry) → TellsSent answer 
 sent-tells (shared.Free e) seen tells = absurd tells
 sent-tells (shared.Sent e k) seen tells = tells
 sent-tells (shared.Left e k) seen tells = tells
-sent-tells (shared.Void k) seen tells = tt
+sent-tells (shared.Void k) seen tells = tells
 
 pub sent-given : (c : ℕ) (answer : SharedGive) (seen : List Entry) → TellsSent answer seen
     → permit_given c answer ≡ entry.GiveSent c ∷ []

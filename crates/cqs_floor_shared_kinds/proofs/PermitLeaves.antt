@@ -1,5 +1,5 @@
 -- How a cancel leaves the pass of a shared semaphore, and a call in which it has no entry of its own.
-use Rattle.std.proofs.Common.{◌≡◌, ℕ, ◌-◌, List, [], Option, Some, None, sym, subst, rules}
+use Rattle.std.proofs.Common.{◌≡◌, ℕ, List, [], Option, Some, None, sym, subst, rules}
 use Rattle.cqs_core.specs.declared.entries.Entry.{Entry}
 use Rattle.cqs_rule.specs.declared.queue.tokens.Under as token
 use Rattle.cqs_rule_laws.specs.declared.view.View.{View}

@@ -1,5 +1,5 @@
 -- A semaphore that workers share is a resource as a floor needs it: each call by what it left of the pass.
-use Rattle.std.proofs.Common.{◌≡◌, ℕ, zero, ◌+◌, ◌-◌, ◌≤◌, false, List, [], ◌∷◌, drop, length, sum_by, Some, None, Ok, refl, ap, sym, ◌∙◌, subst, arith}
+use Rattle.std.proofs.Common.{◌≡◌, ℕ, ◌+◌, ◌-◌, ◌≤◌, false, List, [], ◌∷◌, drop, length, sum_by, Some, None, Ok, refl, ap, sym, ◌∙◌, subst, arith}
 use Rattle.std.specs.Arc.{arc_value}
 use Rattle.std.proofs.lemmas.Bool.{false≢true}
 use Rattle.std.proofs.lemmas.List.{length_push}
@@ -29,8 +29,8 @@ use Rattle.cqs_semaphore.specs.declared.answers.Acquired.TheVariants.{Now, Later
 use Rattle.cqs_semaphore.specs.declared.answers.CancelAnswer.TheVariants.{Cancelled, TooLate}
 use Rattle.cqs_semaphore.specs.declared.answers.Permit.{Permit}
 use Rattle.cqs_semaphore.specs.declared.answers.Polled.TheVariants.{Granted, Pending}
-use Rattle.cqs_semaphore.specs.declared.answers.Released.TheVariants.{Sent, Left, Void, Under}
-use Rattle.cqs_semaphore.specs.Answers.{Acquires, HandsBack, IsPolled, IsWorn, Takes as TakesSo, WasUnwanted}
+use Rattle.cqs_semaphore.specs.declared.answers.Released.TheVariants.{Left, Void}
+use Rattle.cqs_semaphore.specs.Answers.{Acquires, Ends, HandsBack, IsPolled, IsWorn, Takes as TakesSo, WasUnwanted}
 use Rattle.cqs_rule_laws.specs.CallRule.{IsReady}
 use Rattle.cqs_semaphore.specs.Calls.{CallRule, IsMine, Rests}
 use Rattle.cqs_semaphore.specs.Entries.{acquired_entries, acquired_further, came_by, passed_further, polled_entries, took_entries}
@@ -57,6 +57,7 @@ use Rattle.cqs_floor_shared_kinds.proofs.Runs.{last-in, none-more, not-before, w
 use Rattle.cqs_floor_shared_kinds.proofs.PermitAnswers.{brought-is, come-is, drawn-is, drawn-same, give-counts, give-is, history-of, leave-is, look-is, may-come, oldest-is, parties-is, sent-given, sent-tells, turned-is}
 use Rattle.cqs_floor_shared_kinds.proofs.HeldPermits.{less-total, more-total, permits-at, permits-less, permits-more}
 use Rattle.cqs_floor_shared_kinds.proofs.PermitLeaves.{left-done, left-owing}
+use Rattle.cqs_floor_shared_kinds.proofs.PermitsServed.{found-gone, left-unserved, void-unserved}
 
 module _ (x y : SharedPermits) (same_one : y.semaphore ≡ x.semaphore)
     (mine : IsMine (arc_value x.semaphore) y.pass) where
@@ -304,14 +305,16 @@ module _ (x y : SharedPermits) (same_one : y.semaphore ≡ x.semaphore)
       rests (refl, (rule.called.before, rule.called.ends))
 
   pub gives-left : (job k : ℕ) → CallRule v (entry.GiveSent v.number ∷ []) [] w
-      → Rests v (v.facts.has.held - 1) v.facts.waits w → Gives share_permits job x (shared.Left 0 k) y
-  gives-left job k rule rests =
-      gives-back job (shared.Left 0 k) (λ size held waiting r. called _ [] size held waiting r rule) rests refl
+      → Ends v (v.facts.has.held - 1) v.facts.waits (Left k) w → Gives share_permits job x (shared.Left 0 k) y
+  gives-left job k rule ends =
+      gives-back job (shared.Left 0 k) (λ size held waiting r. called _ [] size held waiting r rule) ends.1
+      (refl, left-unserved k w ends.0)
 
   pub gives-void : (job k : ℕ) → CallRule v (entry.GiveSent v.number ∷ []) [] w
-      → Rests v (v.facts.has.held - 1) v.facts.waits w → Gives share_permits job x (shared.Void k) y
-  gives-void job k rule rests =
-      gives-back job (shared.Void k) (λ size held waiting r. called _ [] size held waiting r rule) rests tt
+      → Ends v (v.facts.has.held - 1) v.facts.waits (Void k) w → Gives share_permits job x (shared.Void k) y
+  gives-void job k rule ends =
+      gives-back job (shared.Void k) (λ size held waiting r. called _ [] size held waiting r rule) ends.1
+      (found-gone k w ends.0, void-unserved k w ends.0)
 
   -- one that was handed back, and finished then
   pub gives-under : (job : ℕ) (answer : SharedGive) (under : token.Under) (u : View Entry (Unit {0}))

@@ -16,7 +16,8 @@ use Rattle.cqs_plan.specs.Language.{can_hold}
 use Rattle.cqs_pool.specs.declared.element.Element.{Element}
 use Rattle.cqs_rule_laws.specs.CallRule.{IsReady}
 use Rattle.cqs_pool.specs.Calls.{CallRule, IsMine, Rests}
-use Rattle.cqs_pool.specs.Answers.{HandsBack, IsWorn}
+use Rattle.cqs_pool.specs.declared.answers.Placed.TheVariants as placed
+use Rattle.cqs_pool.specs.Answers.{Ends, HandsBack, IsWorn}
 use Rattle.cqs_pool.specs.Elements.{number_of, wait_of}
 use Rattle.cqs_pool.specs.Pool.{HasEach, pool_object}
 use Rattle.cqs_pool_object.specs.declared.entries.PoolEntry.{PoolEntry}
@@ -51,6 +52,7 @@ use Rattle.cqs_floor_shared_kinds.specs.Runs.{Stays, Went}
 use Rattle.cqs_floor_shared_kinds.specs.Shares.{Funds, KeepsAll, KeepsOthers, Sees, with_less, with_more, with_wait}
 use Rattle.cqs_floor_shared_kinds.specs.ShareCalls.{Gives, Leaves, Looks, Takes, oldest}
 use Rattle.cqs_floor_shared_kinds.proofs.ElementsInHand.{first-in-hand, hands-less, hands-more}
+use Rattle.cqs_floor_shared_kinds.proofs.ElementsServed.{left-unserved}
 use Rattle.cqs_floor_shared_kinds.proofs.Families.{name-same}
 use Rattle.cqs_floor_shared_kinds.proofs.PoolAccounts.{account-next}
 use Rattle.cqs_floor_shared_kinds.proofs.Runs.{last-in, none-more, not-before, some-number, taken-element, waits-next, waits-token, went-call, went-silent, went-then}
@@ -327,9 +329,11 @@ module _ (x y : SharedPool) (same_one : y.pool ≡ x.pool) (mine : IsMine (arc_v
         (refl, (rule.called.before, rule.called.ends))
 
     pub pool-leaves_it : (k : ℕ) → CallRule v (entry.Put v.number e ∷ []) [] w
-        → Rests v (without e v.facts.has.slots) v.facts.waits w → Gives share_pool job x (shared.Left e k) y
-    pool-leaves_it k rule rests =
-        gives-back (shared.Left e k) (λ size waiting r. called _ [] size waiting r rule) rests refl
+        → Ends v e (without e v.facts.has.slots) v.facts.waits (placed.Left k) w
+        → Gives share_pool job x (shared.Left e k) y
+    pool-leaves_it k rule ends =
+        gives-back (shared.Left e k) (λ size waiting r. called _ [] size waiting r rule) ends.1
+        (refl, left-unserved k w ends.0)
 
     -- one that was handed back, and finished then
     module _ (under : token.Under) (u : View PoolEntry (Unit {0})) (rule : CallRule v (entry.Put v.number e ∷ []) [] u)
@@ -352,7 +356,7 @@ module _ (x y : SharedPool) (same_one : y.pool ≡ x.pool) (mine : IsMine (arc_v
       pub pool-gives_late : (arrived : Arrived) → TellsArrived e arrived w.seen
           → Gives share_pool job x (as_give e arrived) y
       pool-gives_late (Sent k) delivered = gives-back (shared.Sent e k) in-all rests-all (refl, delivered)
-      pool-gives_late (Left k) delivered = gives-back (shared.Left e k) in-all rests-all refl
+      pool-gives_late (Left k) unserved = gives-back (shared.Left e k) in-all rests-all (refl, unserved)
 
   -- The end of a wait, at a place of which there is a token.
   module _ (round : ℕ) (wait : Wait) (at : Place) (is : place_of wait ≡ at) (no_round : round ≡ 0)

@@ -6,7 +6,7 @@ use Rattle.cqs_plan.specs.declared.plans.kind.Kind.TheVariants as kind
 use Rattle.cqs_plan.specs.FloorHistory.{of_permits}
 use Rattle.cqs_floor_shared.specs.declared.shared.SharedGive.{SharedGive}
 use Rattle.cqs_floor_shared.specs.declared.shared.SharedGive.TheVariants as shared
-use Rattle.cqs_floor_shared.specs.Entries.{EndsDelivered}
+use Rattle.cqs_floor_shared.specs.Entries.{EndsDelivered, IsUnserved, HasGone}
 
 -- a semaphore or a mutex
 abbrev pub IsOfPermits : Kind → Type 0
@@ -20,5 +20,5 @@ IsOfPermits (kind.Rounds parties rounds) = ⊥
 abbrev pub TellsSent : SharedGive → List Entry → Type 0
 TellsSent (shared.Free e) seen = ⊥
 TellsSent (shared.Sent e k) seen = (e ≡ 0) × EndsDelivered (of_permits seen) k 0
-TellsSent (shared.Left e k) seen = e ≡ 0
-TellsSent (shared.Void k) seen = Unit {0}
+TellsSent (shared.Left e k) seen = (e ≡ 0) × IsUnserved (of_permits seen) k
+TellsSent (shared.Void k) seen = HasGone (of_permits seen) k × IsUnserved (of_permits seen) k

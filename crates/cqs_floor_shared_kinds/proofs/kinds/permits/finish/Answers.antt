@@ -2,6 +2,7 @@ use Rattle.std.proofs.Common.{[], refl, ◌∙◌}
 use Rattle.cqs_semaphore_client.specs.Semaphore.{semaphore_object}
 use Rattle.cqs_rule.specs.Passes.{pass_view}
 use Rattle.cqs_floor_shared_kinds.proofs.PermitLeaves.{silent}
+use Rattle.cqs_floor_shared_kinds.proofs.PermitsServed.{found-gone, left-unserved, void-unserved}
 use Rattle.cqs_floor_shared_kinds.proofs.Runs.{went-none, went-then}
 use Rattle.cqs_floor_shared_kinds.proofs.kinds.permits.finish.Goals as goal
 
@@ -19,6 +20,15 @@ pub returns-in-Left-clause-went : goal.returns-in-Left-clause-went
 returns-in-Left-clause-went g c =
     went-then semaphore_object _ _ _ [] [] c.loop.invariant.went
     (silent _ _ _ (rw c.in-Left.is at c.finish.ensures.called))
+
+pub returns-in-Left-clause-tells : goal.returns-in-Left-clause-tells
+returns-in-Left-clause-tells g c =
+    let ends = rw c.in-Left.is at c.finish.ensures.ends in (refl, left-unserved _ _ ends.0)
+
+pub returns-in-Void-clause-tells : goal.returns-in-Void-clause-tells
+returns-in-Void-clause-tells g c =
+    let ends = rw c.in-Void.is at c.finish.ensures.ends in
+    (found-gone _ _ ends.0, void-unserved _ _ ends.0)
 
 pub returns-in-Void-clause-went : goal.returns-in-Void-clause-went
 returns-in-Void-clause-went g c =

@@ -3,6 +3,7 @@ use Rattle.cqs_plan.specs.FloorHistory.{of_elements}
 use Rattle.cqs_pool.specs.Pool.{pool_object}
 use Rattle.cqs_rule.specs.Passes.{pass_view}
 use Rattle.cqs_floor_shared.specs.Entries.{EndsDelivered}
+use Rattle.cqs_floor_shared_kinds.proofs.ElementsServed.{left-unserved}
 use Rattle.cqs_floor_shared_kinds.proofs.PoolShares.{silent}
 use Rattle.cqs_floor_shared_kinds.proofs.Runs.{went-none, went-then}
 use Rattle.cqs_floor_shared_kinds.proofs.kinds.pool.finish.Goals as goal
@@ -20,6 +21,10 @@ returns-in-Sent-clause-tells g c =
 pub returns-in-Left-clause-went : goal.returns-in-Left-clause-went
 returns-in-Left-clause-went g c =
     went-then pool_object _ _ _ [] [] c.loop.invariant.went (silent _ _ _ (rw c.in-Left.is at c.finish.ensures.called))
+
+pub returns-in-Left-clause-tells : goal.returns-in-Left-clause-tells
+returns-in-Left-clause-tells g c =
+    let ends = rw c.in-Left.is at c.finish.ensures.ends in left-unserved _ _ ends.0
 
 pub loop-preserved : goal.loop-preserved
 loop-preserved g c =

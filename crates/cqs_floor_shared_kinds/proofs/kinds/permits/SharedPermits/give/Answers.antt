@@ -19,13 +19,13 @@ pub returns-in-Ok-Left : goal.returns-in-Ok-Left
 returns-in-Ok-Left g c =
     let released = rw c.in-Ok-Left.field-0-is at c.in-Ok-Left.ensures.released in
     gives-left _ _ refl (rw c.deref-2.ensures at c.in-Ok-Left.ensures.belongs) c.args.job c.in-Ok-Left.number
-    (rw c.in-Ok-Left.field-0-is at c.in-Ok-Left.ensures.called) released.1.1
+    (rw c.in-Ok-Left.field-0-is at c.in-Ok-Left.ensures.called) released.1
 
 pub returns-in-Ok-Void : goal.returns-in-Ok-Void
 returns-in-Ok-Void g c =
     let released = rw c.in-Ok-Void.field-0-is at c.in-Ok-Void.ensures.released in
     gives-void _ _ refl (rw c.deref-2.ensures at c.in-Ok-Void.ensures.belongs) c.args.job c.in-Ok-Void.number
-    (rw c.in-Ok-Void.field-0-is at c.in-Ok-Void.ensures.called) released.1.1
+    (rw c.in-Ok-Void.field-0-is at c.in-Ok-Void.ensures.called) released.1
 
 pub returns-in-Ok-Under : goal.returns-in-Ok-Under
 returns-in-Ok-Under g c =

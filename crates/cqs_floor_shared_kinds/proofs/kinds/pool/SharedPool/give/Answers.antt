@@ -22,7 +22,7 @@ returns-in-Ok-Left g c =
     let ends = rw c.in-Ok-Left.field-0-is at c.in-Ok-Left.ensures.ends in
     rw c.number-number.ensures (pool-leaves_it _ _ refl (rw c.deref.ensures at c.in-Ok-Left.ensures.belongs)
     c.take_out-element.ensures.capacity c.args.job _ c.take_out-element.ensures.first c.take_out-element.ensures.rest
-    c.in-Ok-Left.wait (rw c.in-Ok-Left.field-0-is at c.in-Ok-Left.ensures.called) ends.1)
+    c.in-Ok-Left.wait (rw c.in-Ok-Left.field-0-is at c.in-Ok-Left.ensures.called) ends)
 
 pub returns-in-Ok-Under : goal.returns-in-Ok-Under
 returns-in-Ok-Under g c =

@@ -15,4 +15,5 @@ pub mod LatchMeets
 pub mod LatchSplits
 pub mod LatchOpens
 pub mod AmongShares
+pub mod OnlyPasses
 pub mod AnyShares

@@ -3,3 +3,4 @@ pub mod RoundsShares
 pub mod LatchAccounts
 pub mod LatchShares
 pub mod AnyShares
+pub mod OnlyPasses

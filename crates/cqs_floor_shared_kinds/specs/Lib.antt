@@ -9,3 +9,4 @@ pub mod PermitShares
 pub mod PoolAccounts
 pub mod PoolRuns
 pub mod PoolShares
+pub mod OnlyPasses

@@ -12,6 +12,7 @@ pub mod RoundsBack
 pub mod FloorLooks
 pub mod FloorCrews
 pub mod FloorEnds
+pub mod OnlyPasses
 pub mod KindsTold
 pub mod FloorWaiters
 pub mod FloorMeets

@@ -5,3 +5,4 @@ pub mod FloorKept
 pub mod DeskCalls
 pub mod Meeting
 pub mod Openings
+pub mod OnlyPasses

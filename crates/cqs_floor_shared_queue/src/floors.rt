@@ -8,4 +8,4 @@ mod share_floor;
 mod spots;
 
 pub use opening::shared_floors;
-pub use share_floor::ShareFloor;
+pub use share_floor::{ShareFloor, tell_passes};

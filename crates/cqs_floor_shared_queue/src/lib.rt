@@ -4,4 +4,4 @@
 
 mod floors;
 
-pub use floors::{ShareFloor, shared_floors};
+pub use floors::{ShareFloor, shared_floors, tell_passes};

@@ -1,9 +1,13 @@
 //! The floor of one worker.
 
+ghost use Rattle.cqs_floor_shared.specs.Calls.{HaveAllMet};
+ghost use Rattle.cqs_floor_shared_any.specs.AnyShares.{share_any};
 ghost use Rattle.cqs_floor_shared_queue.specs.Ledgers.{shared_in};
+ghost use Rattle.cqs_floor_shared_queue.specs.OnlyPasses.{HasOnlyPasses};
 
 use super::desk::Desk;
 use cqs_floor_shared::{SharedFloor, SharedGive, Turned};
+use cqs_floor_shared_any::AnyShared;
 use cqs_floor_shared_kinds::SharedResource;
 use cqs_plan::{FloorDown, FloorEnd, FloorLeave, FloorLook, FloorTake};
 use std::marker::Model;
@@ -76,4 +80,12 @@ impl<X: SharedResource> SharedFloor for ShareFloor<X> {
         X::law();
         self.desk.end(at)
     }
+}
+
+/// Does nothing: its clause tells what the passes of a floor are once all floors have met in it.
+pub fn tell_passes(floor: &ShareFloor<AnyShared>)
+    ensures { HaveAllMet (shared_in share_any floor.now) → HasOnlyPasses floor.now }
+{
+    // What the floor keeps is told where it is opened.
+    let _desk = &floor.desk;
 }

@@ -1,4 +1,4 @@
-use Rattle.std.proofs.Common.{[], refl, ◌∙◌}
+use Rattle.std.proofs.Common.{[], refl, rules, ◌∙◌}
 use Rattle.cqs_semaphore_client.specs.Semaphore.{semaphore_object}
 use Rattle.cqs_rule.specs.Passes.{pass_view}
 use Rattle.cqs_floor_shared_kinds.proofs.PermitLeaves.{silent}
@@ -23,7 +23,9 @@ returns-in-Left-clause-went g c =
 
 pub returns-in-Left-clause-tells : goal.returns-in-Left-clause-tells
 returns-in-Left-clause-tells g c =
-    let ends = rw c.in-Left.is at c.finish.ensures.ends in (refl, left-unserved _ _ ends.0)
+    let ends = rw c.in-Left.is at c.finish.ensures.ends in
+    let unserved = left-unserved _ _ ends.0 in
+    search rules
 
 pub returns-in-Void-clause-tells : goal.returns-in-Void-clause-tells
 returns-in-Void-clause-tells g c =

@@ -1,0 +1,5 @@
+pub mod Lines
+pub mod LineLaws
+pub mod Requests
+pub mod Replies
+pub mod Told

@@ -1,0 +1,4 @@
+pub mod Came
+pub mod Sends
+pub mod Answered
+pub mod Replied

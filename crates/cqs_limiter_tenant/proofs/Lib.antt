@@ -2,3 +2,4 @@ pub mod Came
 pub mod Sends
 pub mod Answered
 pub mod Replied
+pub mod Opened

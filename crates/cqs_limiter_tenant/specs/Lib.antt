@@ -1,2 +1,3 @@
 pub mod Seats
 pub mod Tenants
+pub mod Made

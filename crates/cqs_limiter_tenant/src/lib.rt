@@ -3,6 +3,7 @@
 #![tactic(auto)]
 
 mod asking;
+mod making;
 mod sending;
 mod tenant;
 

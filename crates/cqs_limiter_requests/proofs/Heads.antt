@@ -1,14 +1,14 @@
 -- The first line of a text of requests.
-use Rattle.std.proofs.Common.{◌≡◌, ◌≢◌, ◌⊎◌, inl, inr, ℕ, zero, suc, ◌+◌, ◌<◌, ◌≤◌, ◌^◌, List, [], ◌∷◌, ◌++◌, length, All, codes, refl, sym, ap, ◌∙◌, subst, arith, drop, get_or, append_assoc, length-append, true, false, Option, Some, None, Result, Ok, Err, IfOk, MatchOption}
+use Rattle.std.proofs.Common.{◌≡◌, ◌≢◌, inr, ℕ, zero, suc, ◌+◌, ◌<◌, ◌≤◌, List, [], ◌∷◌, ◌++◌, length, All, codes, refl, sym, ap, ◌∙◌, arith, drop, get_or, append_assoc, length-append, Option, Some, None, Result, Ok, Err, IfOk, MatchOption}
 use Rattle.std.proofs.Math.Seq.{drop-cons}
 use Rattle.cqs_lines.specs.Said.{Lacks, IsCut, Said, said, said_text, line_text, tail_text, AreFit, IsSaid, IsLine}
-use Rattle.cqs_lines.specs.Forms.{lines_text, AllFit, AreItems, IsFirstBad}
+use Rattle.cqs_lines.specs.Forms.{lines_text, AreItems, IsFirstBad}
 use Rattle.cqs_lines.proofs.Verbs.{lacks-true}
 use Rattle.cqs_lines.proofs.Texts.{said-unique}
 use Rattle.cqs_lines.proofs.Reading.{endless, first-line, line-said, lines-many}
 use Rattle.cqs_limiter_requests.specs.declared.asks.Line.{Line}
 use Rattle.cqs_limiter_requests.specs.Lines.{permits_say, ArePermits, IsPermits, line_says, IsLineFor}
-use Rattle.cqs_limiter_requests.specs.Requests.{IsHeadless, IsBadRequest, IsFirstBadLine}
+use Rattle.cqs_limiter_requests.specs.Requests.{IsHeadless, IsFirstBadLine}
 
 permits-fit : (ps : List ℕ) → All IsPermits ps → AreFit ps
 permits-fit [] all = tt

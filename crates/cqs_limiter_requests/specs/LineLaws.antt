@@ -1,5 +1,5 @@
 -- What a request says is a line.
-use Rattle.std.specs.Prelude.{◌≡◌, ℕ, ◌<◌, ◌^◌, [], ◌∷◌, codes, refl}
+use Rattle.std.specs.Prelude.{ℕ, ◌<◌, ◌^◌, [], ◌∷◌, codes, refl}
 use Rattle.std.proofs.Math.Nat.{lt_trans}
 use Rattle.std.proofs.lemmas.Bool.{ltb-true}
 use Rattle.cqs_lines.specs.Said.{IsLine, said}

@@ -27,11 +27,7 @@ fn permits_in(alloc: Global, numbers: &[u64]) -> Result<Option<Vec<u32>>, AllocE
 }
 
 /// The permits of the tenants, where these words say them.
-fn permits_said(
-    alloc: Global,
-    verb: &[u8],
-    numbers: &[u64],
-) -> Result<Option<Vec<u32>>, AllocError>
+fn permits_said(alloc: Global, verb: &[u8], numbers: &[u64]) -> Result<Option<Vec<u32>>, AllocError>
     requires { 0 < length numbers.now }
     ensures { IfOk result (λ found. MatchOption found
         ((permits : List ℕ) → ArePermits permits → permits_say permits ≢ said verb.now numbers.now)

@@ -79,9 +79,9 @@ module _ (x y : Tenant) (line : Line) (c : Call) (entries : List Entry) (r : Rep
           ≡ (if j == line.client then place_by (place_at (seat_of x line.client)) (answer_of (standing_of x) line)
           else place_at (seat_of x j))
       go (inl same) = rw (eq-eqb j line.client same) (
-        ap (λ n. place_at (seat_of y n)) same ∙ ap place_at seated.here ∙ does.place
-        ∙ ap (place_by (place_at (seat_of x line.client))) answer_is
-      )
+          ap (λ n. place_at (seat_of y n)) same ∙ ap place_at seated.here ∙ does.place
+          ∙ ap (place_by (place_at (seat_of x line.client))) answer_is
+          )
       go (inr far) = rw (ne_eqb j line.client far) (ap place_at (seated.others j far))
 
   stands : standing_of y ≡ after_line (standing_of x) line
@@ -149,7 +149,7 @@ module _ (x y : Tenant) (line : Line) (c : Call) (entries : List Entry) (r : Rep
     kept = kept_on;
     numbers =
         let counted : drawn_in (view_of y).seen ≡ drawn_in (view_of x).seen + drawn_in entries
-            = ap drawn_in comes.seen ∙ sum_by-append (λ e. bit (is_enter e)) (view_of x).seen entries in
+        = ap drawn_in comes.seen ∙ sum_by-append (λ e. bit (is_enter e)) (view_of x).seen entries in
         let numbers = room.numbers in
         let few = does.few in
         let limit = comes.same.limit in

@@ -36,10 +36,10 @@ pub enters-next : (t : ℕ) (lines : List Line) (i : ℕ) (d : Line) (total : �
 enters-next t lines i d total low so_far =
     let up : suc i ≡ i + 1 = omega arith in
     let next : drop i lines ≡ get_or lines i d ∷ drop (i + 1) lines
-        = drop-cons lines i d low ∙ ap (λ n. get_or lines i d ∷ drop n lines) up in
+    = drop-cons lines i d low ∙ ap (λ n. get_or lines i d ∷ drop n lines) up in
     let parts : enters (own t (drop i lines))
-        ≡ draws_at t (get_or lines i d) + enters (own t (drop (i + 1) lines))
-        = ap (λ l. enters (own t l)) next ∙ enters-cons t (get_or lines i d) (drop (i + 1) lines) in
+    ≡ draws_at t (get_or lines i d) + enters (own t (drop (i + 1) lines))
+    = ap (λ l. enters (own t l)) next ∙ enters-cons t (get_or lines i d) (drop (i + 1) lines) in
     omega (arith, so_far, parts)
 
 drop-past : (lines : List Line) (n : ℕ) → length lines ≤ n → drop n lines ≡ []
@@ -84,7 +84,7 @@ module _ (x : Tenant) (t : ℕ) (lines : List Line) (index : ℕ) (d : Line) (y 
           → (i ≡ index) ⊎ (i ≢ index) → IsKnown y line.client
       go i line low there mine (inl last) =
           let is : get_or lines index d ≡ line
-              = ap (λ n. get_or lines n d) (sym last) ∙ get_or_from_slice_get lines i line d there in
+          = ap (λ n. get_or lines n d) (sym last) ∙ get_or_from_slice_get lines i line d there in
           absurd (far (mine ∙ ap (λ (l : Line). l.tenant) (sym is)))
       go i line low there mine (inr other) = seating.known i line (omega (arith, low, other)) there mine
 
@@ -107,7 +107,7 @@ module _ (x : Tenant) (t : ℕ) (lines : List Line) (index : ℕ) (d : Line) (y 
           → (i ≡ index) ⊎ (i ≢ index) → IsKnown z line.client
       go i line low there mine (inl last) =
           let is : get_or lines index d ≡ line
-              = ap (λ n. get_or lines n d) (sym last) ∙ get_or_from_slice_get lines i line d there in
+          = ap (λ n. get_or lines n d) (sym last) ∙ get_or_from_slice_get lines i line d there in
           subst (λ (l : Line). IsKnown z l.client) is known
       go i line low there mine (inr other) =
           seated.known line.client (seating.known i line (omega (arith, low, other)) there mine)

@@ -1,6 +1,6 @@
 -- Tenants are dealt, one after the other from the last.
-use Rattle.std.proofs.Common.{◌≡◌, ◌≢◌, ◌⊎◌, inl, inr, ℕ, zero, suc, ◌+◌, ◌<◌, ◌≤◌, ◌%◌, List, [], ◌∷◌, ◌++◌, length, set, replicate, slice_get, Option, Some, None, refl, sym, ap, ◌∙◌, subst, arith, append_assoc, append-nil, length-append, mod-lt}
-use Rattle.std.proofs.lemmas.Bool.{cases_eq, cases_lt}
+use Rattle.std.proofs.Common.{◌≡◌, ◌≢◌, ◌⊎◌, inl, inr, ℕ, zero, suc, ◌+◌, ◌<◌, ◌≤◌, ◌%◌, List, [], ◌∷◌, ◌++◌, length, set, replicate, slice_get, Some, None, refl, sym, ap, ◌∙◌, subst, arith, append_assoc, append-nil, length-append, mod-lt}
+use Rattle.std.proofs.lemmas.Bool.{cases_eq}
 use Rattle.cqs_core.proofs.Places.{get-set_here, get-set_else, get-below, get-push_at, get-append_left}
 use Rattle.cqs_limiter_workers.specs.declared.works.Post.{Post}
 use Rattle.cqs_limiter_workers.specs.Dealing.{IsPost, AreDealt, IsEmpty, AreEmpty, IsSeatedIn}
@@ -118,7 +118,7 @@ module _ {X : Type 0} where
             let is : x ≡ y = same-x x y (sym here ∙ sym (ap (slice_get tenants) same) ∙ there) in
             ap (slice_get (set seated.was.desks.items place (Some x))) same
             ∙ get-set_here seated.was.desks.items place None (Some x)
-                (was.none place (get-below tenants place x here) (inl (omega (arith, long-one))))
+            (was.none place (get-below tenants place x here) (inl (omega (arith, long-one))))
             ∙ ap (λ z. Some (Some z)) is
         own-at t y (inr far) from mine there =
             get-set_else seated.was.desks.items place t (Some x) (λ e. far (sym e))
@@ -137,8 +137,8 @@ module _ {X : Type 0} where
             → slice_get (set old (place % workers) seated.is) w ≡ Some post → IsPost workers tenants place w post
         at w post (inl same) got =
             let is : seated.is ≡ post = one seated.is post
-                (sym (get-set_here old (place % workers) seated.was seated.is seated.there)
-                ∙ sym (ap (slice_get (set old (place % workers) seated.is)) same) ∙ got) in
+            (sym (get-set_here old (place % workers) seated.was seated.is seated.there)
+            ∙ sym (ap (slice_get (set old (place % workers) seated.is)) same) ∙ got) in
             subst (IsPost workers tenants place w) is (record {
               worker = seated.worker_is ∙ was.worker ∙ sym same;
               long = ap length seated.desks ∙ set-long seated.was.desks.items place (Some x) ∙ was.long;
@@ -153,7 +153,7 @@ module _ {X : Type 0} where
             other-way t (inr other) = inr (λ e. other (e ∙ sym same))
         at w post (inr far) got =
             let is = dealing.are.at w post
-                (sym (get-set_else old (place % workers) w seated.is (λ e. far (sym e))) ∙ got) in
+            (sym (get-set_else old (place % workers) w seated.is (λ e. far (sym e))) ∙ got) in
             record {
               worker = is.worker;
               long = is.long;

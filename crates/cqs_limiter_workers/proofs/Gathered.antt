@@ -1,5 +1,5 @@
 -- Tenants are gathered, one after the other.
-use Rattle.std.proofs.Common.{◌≡◌, ◌≢◌, ◌⊎◌, inl, inr, ℕ, zero, suc, ◌+◌, ◌<◌, ◌≤◌, ◌%◌, List, [], ◌∷◌, ◌++◌, length, set, slice_get, Option, Some, None, refl, sym, ap, ◌∙◌, subst, arith, length-append, mod-lt}
+use Rattle.std.proofs.Common.{◌≡◌, ◌≢◌, ◌⊎◌, inl, inr, ℕ, zero, suc, ◌+◌, ◌<◌, ◌≤◌, ◌%◌, List, [], ◌∷◌, ◌++◌, length, set, slice_get, Some, None, refl, sym, ap, ◌∙◌, subst, arith, length-append, mod-lt}
 use Rattle.std.proofs.lemmas.Bool.{cases_eq}
 use Rattle.cqs_core.proofs.Places.{get-set_here, get-set_else}
 use Rattle.cqs_limiter_workers.specs.declared.works.Told.{Told}
@@ -56,7 +56,7 @@ module _ {X : Type 0} where
         go : (t % length now ≡ from % length first) ⊎ (t % length now ≢ from % length first) → IsWith next t y
         go (inl same) =
             let hand : is.hand ≡ taken.was
-                = told-one is.hand taken.was (sym is.hand_is ∙ ap (slice_get now) same ∙ taken.there) in
+            = told-one is.hand taken.was (sym is.hand_is ∙ ap (slice_get now) same ∙ taken.there) in
             record {
               hand = taken.is;
               hand_is = ap (λ n. slice_get next (t % n)) next-many ∙ ap (slice_get next) same
@@ -81,11 +81,11 @@ module _ {X : Type 0} where
         go : (t % length now ≡ from % length first) ⊎ (t % length now ≢ from % length first) → IsWith now t y
         go (inl same) =
             let hand : taken.is ≡ is.hand
-                = told-one taken.is is.hand
-                    (sym (get-set_here now (from % length first) taken.was taken.is taken.there)
-                    ∙ ap (λ l. slice_get l (from % length first)) (sym taken.hands)
-                    ∙ ap (slice_get next) (sym same) ∙ ap (λ n. slice_get next (t % n)) (sym next-many)
-                    ∙ is.hand_is) in
+            = told-one taken.is is.hand
+            (sym (get-set_here now (from % length first) taken.was taken.is taken.there)
+            ∙ ap (λ l. slice_get l (from % length first)) (sym taken.hands)
+            ∙ ap (slice_get next) (sym same) ∙ ap (λ n. slice_get next (t % n)) (sym next-many)
+            ∙ is.hand_is) in
             record {
               hand = taken.was;
               hand_is = ap (slice_get now) same ∙ taken.there;
@@ -134,7 +134,7 @@ module _ {X : Type 0} where
     tenant-there low told got =
         let is = gathering.left from (omega arith) low in
         let hand : is.1.hand ≡ told = one is.1.hand told
-            (sym is.1.hand_is ∙ ap (λ n. slice_get now (from % n)) gathering.many ∙ got) in
+        (sym is.1.hand_is ∙ ap (λ n. slice_get now (from % n)) gathering.many ∙ got) in
         (is.0, ap (λ (h : Told X). slice_get h.desks.items from) (sym hand) ∙ is.1.there)
       where
         one : (a b : Told X) → Some a ≡ Some b → a ≡ b

@@ -1,5 +1,5 @@
 -- Tokens are dealt back, line by line.
-use Rattle.std.proofs.Common.{◌≡◌, ◌≢◌, ◌⊎◌, inl, inr, ◌==◌, ℕ, zero, suc, ◌+◌, ◌<◌, ◌≤◌, ◌%◌, Bool, true, false, List, [], ◌∷◌, ◌++◌, length, map, drop, set, filter, get_or, replicate, Some, None, Option, slice_get, slice_index, refl, sym, ap, ◌∙◌, subst, arith, append_assoc, append-nil, eq-eqb, ne_eqb, mod-lt, if◌then◌else◌}
+use Rattle.std.proofs.Common.{◌≡◌, ◌≢◌, ◌⊎◌, inl, inr, ℕ, zero, suc, ◌+◌, ◌<◌, ◌%◌, List, [], ◌∷◌, ◌++◌, length, map, drop, set, get_or, replicate, Some, slice_get, slice_index, refl, sym, ap, ◌∙◌, subst, arith, append_assoc, append-nil, eq-eqb, ne_eqb, mod-lt}
 use Rattle.std.proofs.lemmas.List.{map-append}
 use Rattle.std.proofs.lemmas.Bool.{cases_eq}
 use Rattle.std.proofs.Math.Seq.{drop-cons}
@@ -11,7 +11,7 @@ use Rattle.cqs_limiter_workers.specs.declared.notes.Notes.{Notes}
 use Rattle.cqs_limiter_workers.specs.declared.notes.Noted.{Noted}
 use Rattle.cqs_limiter_workers.specs.declared.works.Told.{Told}
 use Rattle.cqs_limiter_workers.specs.Noting.{IsOf, AreOf, noted_value}
-use Rattle.cqs_limiter_workers.specs.Handing.{is_of, outcomes_of, AreHandsOf, AreHands, HasInOrder}
+use Rattle.cqs_limiter_workers.specs.Handing.{outcomes_of, AreHandsOf, AreHands, HasInOrder}
 use Rattle.cqs_limiter_workers.proofs.OnWay.{of-push}
 
 -- the first of what is left of a hand
@@ -179,8 +179,8 @@ module _ {X : Type 0} where
             ∙ h.rest ∙ ap (λ n. outcomes_of (length hands) n (after_ask way.now line) left) (sym same)
         rest_at h w other at (inr far) =
             let skips : outcomes_of (length hands) w way.now (line ∷ left)
-                ≡ outcomes_of (length hands) w (after_ask way.now line) left
-                = rw (ne_eqb worker w (λ e. far (sym e))) refl in
+            ≡ outcomes_of (length hands) w (after_ask way.now line) left
+            = rw (ne_eqb worker w (λ e. far (sym e))) refl in
             ap (λ n. map noted_value (drop n other.tokens.items))
             (index-else next worker w (slice_index next worker + 1) far)
             ∙ way.rest w other at ∙ skips

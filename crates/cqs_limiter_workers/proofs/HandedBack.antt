@@ -1,13 +1,11 @@
 -- A run: what the workers are given, and what they hand back.
-use Rattle.std.proofs.Common.{◌≡◌, ◌≢◌, ◌⊎◌, inl, inr, ◌==◌, ℕ, zero, suc, ◌+◌, ◌<◌, ◌≤◌, ◌%◌, Bool, true, false, true≢false, List, [], ◌∷◌, ◌++◌, length, map, filter, get_or, slice_get, Some, None, Option, Result, Ok, Err, IfOk, refl, sym, ap, ◌∙◌, subst, arith, eq-eqb, ne_eqb, mod-lt, slice_index_or, if◌then◌else◌}
+use Rattle.std.proofs.Common.{◌≡◌, ◌≢◌, ◌⊎◌, inl, inr, ◌==◌, ℕ, zero, suc, ◌<◌, ◌%◌, Bool, true, true≢false, List, [], ◌∷◌, length, map, filter, get_or, slice_get, Some, None, Option, Result, Ok, refl, sym, ap, ◌∙◌, subst, arith, eq-eqb, ne_eqb, mod-lt, if◌then◌else◌}
 use Rattle.std.proofs.lemmas.Bool.{cases_eq}
 use Rattle.std.proofs.lemmas.Option.{slice_get-get_or}
 use Rattle.std.specs.declared.alloc.AllocError.{AllocError}
-use Rattle.cqs_core.specs.declared.entries.Entry.{Entry}
 use Rattle.cqs_core.proofs.Places.{get-below, get-there}
 use Rattle.cqs_limiter_requests.specs.declared.asks.Line.{Line}
-use Rattle.cqs_limiter_requests.specs.declared.asks.LimitOutcome.{LimitOutcome}
-use Rattle.cqs_limiter_requests.specs.Replies.{Tenancy, after_ask, after_asks, entries_in, outcome_of, outcomes}
+use Rattle.cqs_limiter_requests.specs.Replies.{Tenancy, after_ask, outcome_of, outcomes}
 use Rattle.cqs_limiter_requests.specs.Told.{outcomes_text}
 use Rattle.cqs_limiter_workers.specs.declared.notes.Notes.{Notes}
 use Rattle.cqs_limiter_workers.specs.declared.notes.Noted.{Noted}
@@ -15,12 +13,12 @@ use Rattle.cqs_limiter_workers.specs.declared.works.Post.{Post}
 use Rattle.cqs_limiter_workers.specs.declared.works.Told.{Told}
 use Rattle.cqs_limiter_workers.specs.declared.runs.Ran.{Ran}
 use Rattle.cqs_limiter_workers.specs.Noting.{AreOf, noted_value}
-use Rattle.cqs_limiter_workers.specs.Sights.{Sight, own}
+use Rattle.cqs_limiter_workers.specs.Sights.{Sight}
 use Rattle.cqs_limiter_workers.specs.Serving.{has, is_there, AllBelow, AreSeated, CanServe, HasServed, AllServed}
 use Rattle.cqs_limiter_workers.specs.Dealing.{IsPost, AreDealt}
-use Rattle.cqs_limiter_workers.specs.Gathering.{IsWith, AreAllThere, AreGathered}
-use Rattle.cqs_limiter_workers.specs.Handing.{is_of, outcomes_of, AreHandsOf, AreHands, HasInOrder}
-use Rattle.cqs_limiter_workers.specs.Running.{AreOpen, CanRun, AreAfter, HasRun}
+use Rattle.cqs_limiter_workers.specs.Gathering.{AreAllThere, AreGathered}
+use Rattle.cqs_limiter_workers.specs.Handing.{outcomes_of, AreHandsOf, AreHands, HasInOrder}
+use Rattle.cqs_limiter_workers.specs.Running.{AreOpen, CanRun, HasRun}
 
 -- which lines are a worker's, by the tenants that it has
 own-outcomes : (n workers w : ℕ) (p : ℕ → Bool) (all : ℕ → Tenancy) (lines : List Line)
@@ -30,7 +28,7 @@ own-outcomes n workers w p all [] agree below = refl
 own-outcomes n workers w p all (line ∷ lines) agree below =
     let rest = own-outcomes n workers w p (after_ask all line) lines agree below.1 in
     ap (λ b. if b then outcome_of all line ∷ filter (λ o. p o.tenant) (outcomes (after_ask all line) lines)
-        else filter (λ o. p o.tenant) (outcomes (after_ask all line) lines)) (agree line.tenant below.0)
+    else filter (λ o. p o.tenant) (outcomes (after_ask all line) lines)) (agree line.tenant below.0)
     ∙ ap (λ l. if line.tenant % workers == w then outcome_of all line ∷ l else l) rest
 
 module _ {X : Type 0} (s : Sight X) where
@@ -137,7 +135,7 @@ module _ {X : Type 0} (s : Sight X) where
           let served = h.served.each all (seated-of workers w tenants h.post h.is all lines opened) in
           served.1
           ∙ own-outcomes (length tenants) workers w (has h.post.desks.items) all lines
-              (post-is workers w tenants h.post h.is) can.below
+          (post-is workers w tenants h.post h.is) can.below
           ∙ ap (λ n. outcomes_of n w all lines) (sym many-hands);
     }
 
@@ -152,14 +150,16 @@ module _ {X : Type 0} (s : Sight X) where
         let at = get-there hands (t % workers) (omega (arith, many, under)) in
         let h = hand-at (t % workers) at.0 at.1 in
         let has_it : has at.0.desks.items t ≡ true
-            = h.served.same t ∙ post-is workers (t % workers) tenants h.post h.is t low
-            ∙ eq-eqb (t % workers) (t % workers) refl in
-        let x = there at.0 t has_it in
-        (x.0, record {
-          hand = at.0;
-          hand_is = ap (λ n. slice_get hands (t % n)) many ∙ at.1;
-          there = x.1;
-        })
+        = h.served.same t ∙ post-is workers (t % workers) tenants h.post h.is t low
+        ∙ eq-eqb (t % workers) (t % workers) refl in
+        let x = there at.0 t has_it in (
+          x.0,
+          record {
+            hand = at.0;
+            hand_is = ap (λ n. slice_get hands (t % n)) many ∙ at.1;
+            there = x.1;
+          },
+        )
       where
         there : (hand : Told X) (u : ℕ) → has hand.desks.items u ≡ true
             → (x : X) × (slice_get hand.desks.items u ≡ Some (Some x))
@@ -195,7 +195,7 @@ module _ {X : Type 0} (s : Sight X) where
           let h = hand-at w at.0 at.1 in
           let values = (are-hands all opened).values w at.0 at.1 in
           let as_many : length at.0.tokens.items ≡ length (outcomes_of workers w all lines)
-              = sym (noted-long at.0.tokens.items) ∙ ap length values
-              ∙ ap (λ n. length (outcomes_of n w all lines)) many in
+          = sym (noted-long at.0.tokens.items) ∙ ap length values
+          ∙ ap (λ n. length (outcomes_of n w all lines)) many in
           h.served.gated request from (omega (arith, most, as_many));
     }

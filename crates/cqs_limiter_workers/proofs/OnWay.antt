@@ -4,7 +4,7 @@ use Rattle.std.proofs.lemmas.List.{map-append}
 use Rattle.std.proofs.lemmas.Bool.{cases_eq}
 use Rattle.std.proofs.Math.Seq.{drop-cons}
 use Rattle.cqs_core.specs.declared.entries.Entry.{Entry}
-use Rattle.cqs_core.proofs.Places.{get-set_here, get-set_else, get-below, get-there}
+use Rattle.cqs_core.proofs.Places.{get-set_here, get-set_else}
 use Rattle.cqs_limiter_requests.specs.declared.asks.Line.{Line}
 use Rattle.cqs_limiter_requests.specs.declared.asks.LimitOutcome.{LimitOutcome}
 use Rattle.cqs_limiter_requests.specs.Replies.{Tenancy, after_line, entries_of, after_ask, after_asks, entries_in, outcome_of, outcomes}
@@ -176,8 +176,8 @@ module _ {X : Type 0} (s : Sight X) where
           → Stands (after_ask way.now line) (more_came way.now way.came line) left t z
       stands t z (inl here) got =
           let new : slice_get (set desks line.tenant (Some y)) t ≡ Some (Some y)
-              = ap (slice_get (set desks line.tenant (Some y))) here
-              ∙ get-set_here desks line.tenant (Some x) (Some y) there in
+          = ap (slice_get (set desks line.tenant (Some y))) here
+          ∙ get-set_here desks line.tenant (Some x) (Some y) there in
           let is : y ≡ z = same-one y z (sym new ∙ got) in
           subst (Stands (after_ask way.now line) (more_came way.now way.came line) left t) is
           (own-stands way.now way.came line left t x y here
@@ -283,7 +283,7 @@ module _ {X : Type 0} (s : Sight X) where
     of = working.of;
     each = λ all seated.
         let way = subst (λ l. IsOnWay all first lines desks tokens l)
-            (drop-past lines index past) (working.each all seated) in (
+        (drop-past lines index past) (working.each all seated) in (
           record {
             at = λ t x got. let is = way.seated.at t x got in (
               is.0 ∙ way.ends t,

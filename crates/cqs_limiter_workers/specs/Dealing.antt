@@ -1,5 +1,5 @@
 -- How tenants are dealt to workers.
-use Rattle.std.specs.Prelude.{◌≡◌, ◌≢◌, ◌⊎◌, ℕ, ◌<◌, ◌≤◌, ◌%◌, List, Option, Some, None, length, replicate, slice_get, slice_set}
+use Rattle.std.specs.Prelude.{◌≡◌, ◌≢◌, ◌⊎◌, ℕ, ◌<◌, ◌≤◌, ◌%◌, List, Some, None, length, replicate, slice_get, slice_set}
 use Rattle.cqs_limiter_workers.specs.declared.works.Post.{Post}
 
 module _ {X : Type 0} where

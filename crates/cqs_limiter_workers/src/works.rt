@@ -104,5 +104,9 @@ pub fn work_all<R: Threads + Wait + Sync, G: Gate + Sync, T: Desk + Send + Drop>
     ensures each { IfOk result (λ all. AllServed T.sight notes.now
         (told_by G.begun G.ended gate.now) lines.now posts.items all.items) }
 {
-    thread::map_vec(rt, posts, &|post| { work(rt, alloc, notes, gate, lines, post) })
+    thread::map_vec(
+        rt,
+        posts,
+        &|post| { work(rt, alloc, notes, gate, lines, post) },
+    )
 }

@@ -1,4 +1,4 @@
-use Rattle.std.proofs.Common.{rules, ◌≡◌, ◌∷◌, ◌++◌, [], drop, arith}
+use Rattle.std.proofs.Common.{arith}
 use Rattle.std.proofs.lemmas.List.Elements.{All-append}
 use Rattle.cqs_limiter_requests.specs.Lines.{IsPermits}
 use Rattle.cqs_limiter_requests.proofs.Heads.{moves-on, one-permit}

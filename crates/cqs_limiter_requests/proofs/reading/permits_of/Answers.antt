@@ -1,5 +1,3 @@
-use Rattle.std.proofs.Common.{rules, ◌≡◌, Option, Some, None, Ok, Err, IfOk, MatchOption, List, ℕ, sym, ap, ◌∙◌}
-use Rattle.cqs_lines.specs.Said.{said, said_text}
 use Rattle.cqs_limiter_requests.proofs.Heads.{heard-permits, unsaid}
 use Rattle.cqs_limiter_requests.proofs.reading.permits_of.Goals as goal
 

@@ -1,7 +1,7 @@
-use Rattle.std.proofs.Common.{rules, ◌≡◌, inl, Err, sym, subst, length, arith}
+use Rattle.std.proofs.Common.{rules, ◌≡◌, inl, sym, subst, length}
 use Rattle.cqs_lines.specs.Forms.{AreItems, IsFirstBad}
 use Rattle.cqs_limiter_requests.specs.Lines.{line_says, IsLineFor}
-use Rattle.cqs_limiter_requests.proofs.Heads.{no-feed, no-head, head-long, lines-few, bad-line, read-text}
+use Rattle.cqs_limiter_requests.proofs.Heads.{no-feed, no-head, lines-few, bad-line, read-text}
 use Rattle.cqs_limiter_requests.proofs.reading.read_requests.Goals as goal
 
 pub returns-in_default-clause-bad : goal.returns-in_default-clause-bad

@@ -1,6 +1,6 @@
-use Rattle.std.proofs.Common.{rules, arith, ◌≡◌, ◌<◌, ◌%◌, ◌∙◌, length, slice_get, sym, ap, subst}
+use Rattle.std.proofs.Common.{rules, ◌≡◌, ◌<◌, ◌%◌, ◌∙◌, length, slice_get, sym, ap, subst}
 use Rattle.cqs_limiter_workers.specs.Gathering.{IsTakenFrom}
-use Rattle.cqs_limiter_workers.proofs.Gathered.{IsGathering, gathering-starts, gathering-next, worker-there, tenant-there, gathered}
+use Rattle.cqs_limiter_workers.proofs.Gathered.{gathering-next, worker-there, tenant-there}
 use Rattle.cqs_limiter_workers.proofs.gathers.gather.Goals as goal
 
 pub take-requires-clause-worker : goal.take-requires-clause-worker
@@ -19,7 +19,7 @@ pub loop-place-preserved : goal.loop-place-preserved
 loop-place-preserved g c =
     let many : c.len-workers.result ≡ length c.args.hands.items = search rules in
     rw c.in_ok-push.ensures.items (
-      gathering-next c.args.hands.items _ _ _ _ _ _ c.requires.some c.loop-place.invariant
-      (subst (λ n. IsTakenFrom c.loop-place.hands.items (c.loop-place.place % n) c.loop-place.place c.take.result
-      c.take.new.hands.items) many c.take.ensures)
+    gathering-next c.args.hands.items _ _ _ _ _ _ c.requires.some c.loop-place.invariant
+    (subst (λ n. IsTakenFrom c.loop-place.hands.items (c.loop-place.place % n) c.loop-place.place c.take.result
+    c.take.new.hands.items) many c.take.ensures)
     )

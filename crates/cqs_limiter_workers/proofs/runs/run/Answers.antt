@@ -1,8 +1,8 @@
-use Rattle.std.proofs.Common.{◌≡◌, ◌<◌, length, refl, subst, sym, ◌∙◌}
+use Rattle.std.proofs.Common.{refl, subst, sym, ◌∙◌}
 use Rattle.cqs_limiter_workers.specs.Noting.{told_by}
 use Rattle.cqs_limiter_workers.specs.Gathering.{AreAllThere, AreGathered}
 use Rattle.cqs_limiter_workers.specs.Handing.{AreHands, HasInOrder}
-use Rattle.cqs_limiter_workers.proofs.HandedBack.{all-serve, any-hands, many-hands, all-there, has-run}
+use Rattle.cqs_limiter_workers.proofs.HandedBack.{all-serve, any-hands, all-there, has-run}
 use Rattle.cqs_limiter_workers.proofs.runs.run.Goals as goal
 
 pub work_all-requires-clause-can : goal.work_all-requires-clause-can
@@ -35,7 +35,7 @@ returns g c =
     let many = c.len-many.ensures ∙ c.args.tenants.ok.0 in
     let hands = c.in_ok-hands.hands.items in
     let in_order = subst (λ l. HasInOrder c.in_ok-notes.notes c.args.lines.now l c.in_ok-tokens.tokens.items)
-        c.as_slice.ensures.value c.in_ok-tokens.ensures in
+    c.as_slice.ensures.value c.in_ok-tokens.ensures in
     has-run g.T.Desk.sight c.in_ok-notes.notes (told_by g.G.Gate.begun g.G.Gate.ended c.args.gate.now)
     c.args.lines.now c.args.workers c.args.tenants.items c.in_ok-posts.posts.items c.in_ok-told.told.items
     hands c.requires.workers c.requires.can c.in_ok-posts.ensures long c.in_ok-told.ensures.each

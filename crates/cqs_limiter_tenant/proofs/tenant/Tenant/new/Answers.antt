@@ -12,8 +12,8 @@ returns c =
     let t = c.args.tenant in
     let found = c.index-permits.result.now in
     let permits_are : found ≡ slice_index items t
-        = c.index-permits.ensures
-        ∙ sym (get_or_from_slice_get items t (get_or items t found) 0 (slice_get-get_or items t found c.requires.there)) in
+    = c.index-permits.ensures
+    ∙ sym (get_or_from_slice_get items t (get_or items t found) 0 (slice_get-get_or items t found c.requires.there)) in
     let lines = c.as_slice-lines.ensures.value in
     made-new c.args.requests.now t found c.enters_of.result c.in_ok-made.made c.add_seats.new.self permits_are
     (rw lines at c.enters_of.ensures.enters) c.in_ok-made.ensures

@@ -151,7 +151,8 @@ module _ {X : Type 0} where
         one-told : (a b : Told X) → Some a ≡ Some b → a ≡ b
         one-told a b e = cc e
 
-        here : (w : ℕ) → w ≡ worker → slice_index (set next worker (slice_index next worker + 1)) w ≡ slice_index next worker + 1
+        here : (w : ℕ) → w ≡ worker
+            → slice_index (set next worker (slice_index next worker + 1)) w ≡ slice_index next worker + 1
         here w same = ap (slice_index (set next worker (slice_index next worker + 1))) same
             ∙ index-here next worker (slice_index next worker + 1) (omega (arith, low, many))
 

@@ -18,7 +18,8 @@ pub returns-in-Ok-clause-ok : goal.returns-in-Ok-clause-ok
 returns-in-Ok-clause-ok c =
     let head = rw c.in-Some-2.is at c.in_ok-permits.ensures in
     let many : c.len.result ≡ length c.in-Some-2.permits.items = search rules in
-    let are = subst (λ n. AreItems line_says (IsLineFor n) c.in-Ok.asks.items c.in-Some.rest.now) many c.in-Ok.ensures.ok
+    let are = subst (λ n. AreItems line_says (IsLineFor n) c.in-Ok.asks.items c.in-Some.rest.now) many
+    c.in-Ok.ensures.ok
     in (
       record { permits = head.0; lines = are.fit },
       read-text _ _ _ _ _ _ c.in-Some.ensures head.1 are,
@@ -28,7 +29,8 @@ pub returns-in-Ok-clause-valid : goal.returns-in-Ok-clause-valid
 returns-in-Ok-clause-valid c = λ few.
     let head = rw c.in-Some-2.is at c.in_ok-permits.ensures in
     let many : c.len.result ≡ length c.in-Some-2.permits.items = search rules in
-    let are = subst (λ n. AreItems line_says (IsLineFor n) c.in-Ok.asks.items c.in-Some.rest.now) many c.in-Ok.ensures.ok
+    let are = subst (λ n. AreItems line_says (IsLineFor n) c.in-Ok.asks.items c.in-Some.rest.now) many
+    c.in-Ok.ensures.ok
     in
     record {
       are = record { permits = head.0; lines = are.fit };

@@ -42,4 +42,5 @@ returns-in-Ok-Under c =
     c.requires.ask c.requires.seat (record { here = s.here; others = s.others; known = s.known }) k
     (rw c.sit-in-Ok-Under.ensures.pass (hands-comes v u _ k c.in-Ok-Under.under rule gave c.send-number.ensures.seen
     c.send-number.ensures.same c.send-number.ensures.rests kept.alone kept.number))
-    (first-told (plain_after v) v.number k (first-before v u k rule.called.same (went v u _ _ rule kept.alone) c.send-number.ensures.first))
+    (first-told (plain_after v) v.number k
+    (first-before v u k rule.called.same (went v u _ _ rule kept.alone) c.send-number.ensures.first))

@@ -31,3 +31,6 @@ returns-in-Ok-Later c =
     (latch-joins x _ c.wait.ensures.belongs f.mode c.args._job (place_of wait)
     (waits-comes _ _ f.rests.alone f.rests.number wait waited) plain.0 plain.1
     (record { open_yet = has.open_yet; place = has.place }) refl refl))
+
+pub spend_wait-requires-clause-belongs : goal.spend_wait-requires-clause-belongs
+spend_wait-requires-clause-belongs c = rw c.queue.ensures c.wait.ensures.belongs

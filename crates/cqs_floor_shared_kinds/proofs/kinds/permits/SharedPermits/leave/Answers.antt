@@ -67,3 +67,7 @@ returns-in-TooLate g c =
     = rw (c.wait_of-token.ensures.same, c.in-TooLate.is) at c.cancel.ensures.cancelled in
     leaves-late _ _ refl (rw c.deref-2.ensures at c.cancel.ensures.belongs) _ c.wait_of-token.result _
     c.wait_of-token.ensures.place c.requires.has.0 c.requires.has.1.open_yet c.args.job c.in-TooLate.field-0 told
+
+pub finish-requires-clause-mine : goal.finish-requires-clause-mine
+finish-requires-clause-mine g c =
+    rw c.deref-in-Cancelled-Some.ensures (rw c.deref-2.ensures at c.cancel.ensures.belongs)

@@ -32,3 +32,7 @@ leave_again-requires-clause-has g c = λ κs.
     let l = looked (is_over n) c.spend_wait-at.result.index n v (pass_view c.look_to_leave-loaded.new.pass) leaving
     c.look_to_leave-loaded.ensures.saw refl in
     (rw c.in-Contended.is at c.leave_from.ensures.leaves v l).1.still
+
+pub look_to_leave-loaded-requires-clause-belongs : goal.look_to_leave-loaded-requires-clause-belongs
+look_to_leave-loaded-requires-clause-belongs g c =
+    rw c.queue-2.ensures (rw c.queue.ensures at c.in-Ok-begin_cancel.ensures.belongs)

@@ -7,4 +7,4 @@ serve-requires-clause-place g c =
     known-still _ _ c.in-At.at
     (left-on c.find.new.pass c.leave_value.new.pass c.leave_value.result _
     c.leave_value.ensures.made c.leave_value.ensures.missed)
-    c.in-At.ensures.at.1
+    c.in-At.ensures.finds.1

@@ -7,4 +7,4 @@ install-requires-clause-place g c =
     known-still _ _ c.in-At.at
     (took-on c.find.new.pass c.take_value.new.pass c.take_value.result _
     c.take_value.ensures.took c.take_value.ensures.missed)
-    c.in-At.ensures.at.1
+    c.in-At.ensures.finds.1

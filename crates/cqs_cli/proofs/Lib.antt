@@ -1,4 +1,3 @@
-pub mod Inputs
 pub mod MeaningLemmas
 pub mod PlanLemmas
 pub mod StudyLemmas

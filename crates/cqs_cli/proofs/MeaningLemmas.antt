@@ -9,13 +9,14 @@ use Rattle.cqs_cli_streams.specs.Stream.{Gains, GivesAtMost, GivesCount}
 use Rattle.cqs_cli.specs.Commands.{commands}
 use Rattle.cqs_cli.specs.Contract.{IsCallOf}
 use Rattle.cqs_cli.specs.KeptRuns.{IsNoRun, Keeps, KeptText}
-use Rattle.cqs_cli.specs.Meanings.{BrokeOff, HasTold, IsStatus, MustEnd, NamedFault}
+use Rattle.cqs_cli.specs.Meanings.{BrokeOff, HasTold, IsStatus, NamedFault}
 use Rattle.cqs_cli.specs.Plans.{IsPlan}
-use Rattle.cqs_cli.proofs.Inputs.{gave-as-many, input-told, long-is-no-input}
+use Rattle.cqs_cli_streams.proofs.Inputs.{gave-as-many, input-told, long-is-no-input}
+use Rattle.cqs_cli_streams.specs.Sayings.{Broke, MustEnd, Wrote}
 use Rattle.cqs_cli.proofs.PlanLemmas.{plan_has_no_fault}
 use Rattle.cqs_cli.proofs.StudyLemmas.{IsNoStudy, answers-study, bad-told, due-of, illegal-found, illegal-told, kept-study, legal-found, no-fault-status, study-calm, study-statuses, studied-statuses, text-of, told-whole, wrong-found}
 use Rattle.cqs_cli.proofs.WordLemmas.{gen-is-no-study, gen-reads-nothing, one_command, reads-command, run-is-no-study}
-use Rattle.cqs_cli.specs.Tellings.{Broke, Tells, Wrote, studied_status, studied_text}
+use Rattle.cqs_cli.specs.Tellings.{Tells, studied_status, studied_text}
 use Rattle.cqs_cli.specs.Verdicts.{HasTaken, IsVerdict}
 use Rattle.cqs_cli.specs.Words.{IsCommand, IsRun, IsSomeGen, IsSomeStudy, Reads, usage}
 use Rattle.cqs_cli.specs.declared.kept.Kept.{Kept}

@@ -4,15 +4,16 @@ use Rattle.cqs_cli_streams.specs.Counts.{Rises}
 use Rattle.cqs_cli_streams.specs.declared.streams.sink.Sink.{Ghosts as Sink}
 use Rattle.cqs_cli_streams.specs.declared.streams.source.Source.{Ghosts as Source}
 use Rattle.cqs_cli.specs.KeptRuns.{Keeps}
-use Rattle.cqs_cli.specs.Meanings.{IsStudyAnswer, MustEnd, StudyTold}
-use Rattle.cqs_cli.specs.Tellings.{Tells, Wrote, studied_status, studied_text}
+use Rattle.cqs_cli.specs.Meanings.{IsStudyAnswer, StudyTold}
+use Rattle.cqs_cli.specs.Tellings.{Tells, studied_status, studied_text}
 use Rattle.cqs_cli.specs.Verdicts.{HasStudied, IsVerdict}
 use Rattle.cqs_cli.specs.Words.{IsSomeStudy, IsStudy}
 use Rattle.cqs_cli.specs.declared.kept.Kept.{Kept}
 use Rattle.cqs_cli.specs.declared.kept.Kept.TheVariants.{Nothing}
 use Rattle.cqs_cli.specs.declared.verdict.Verdict.{Verdict}
 use Rattle.cqs_cli.specs.declared.verdict.Verdict.TheVariants as verdict
-use Rattle.cqs_cli.proofs.Inputs.{gave-as-many, input-told}
+use Rattle.cqs_cli_streams.proofs.Inputs.{gave-as-many, input-told}
+use Rattle.cqs_cli_streams.specs.Sayings.{MustEnd, Wrote}
 use Rattle.cqs_cli.proofs.WordLemmas.{gen-is-no-study, one-study, run-is-no-study}
 use Rattle.cqs_cli_histories.proofs.OneAnswer.{form-has-no-fault, illegal-has-form, illegal-has-no-text, illegal-input-has-form, legal-has-no-fault, legal-input-has-form, text-has-form}
 use Rattle.cqs_cli_histories.specs.Studies.{HasForm, IsBadText, IsIllegalInput, IsLegalInput, IsNotLegal, IsStudied, IsStudyText}

@@ -7,11 +7,11 @@ use Rattle.cqs_cli_streams.specs.declared.streams.reading.TheConstants.{LONGEST_
 use Rattle.cqs_cli_streams.specs.declared.streams.sink.Sink.{Ghosts as Sink}
 use Rattle.cqs_cli_streams.specs.declared.streams.source.Source.{Ghosts as Source}
 use Rattle.cqs_cli_streams.specs.declared.streams.tally.Tally.{Tally}
-use Rattle.cqs_cli.specs.Meanings.{IsStatus, MustEnd, NamedFault, StudyTold}
+use Rattle.cqs_cli.specs.Meanings.{IsStatus, NamedFault, StudyTold}
 use Rattle.cqs_cli.specs.Plans.{IsPlan}
-use Rattle.cqs_cli.specs.Tellings.{Broke, Wrote}
 use Rattle.cqs_cli.specs.Words.{IsSomeGen, IsSomeStudy, IsStudy, usage}
-use Rattle.cqs_cli.specs.declared.statuses.TheConstants.{BAD_TEXT, DONE, NO_COMMAND, NO_MEMORY, NO_PLAN, NOT_LEGAL, SINK_FAILED, SOURCE_FAILED, TOO_LONG}
+use Rattle.cqs_cli_streams.specs.declared.statuses.TheConstants.{BAD_TEXT, DONE, NO_COMMAND, NO_MEMORY, NO_PLAN, NOT_LEGAL, SINK_FAILED, SOURCE_FAILED, TOO_LONG}
+use Rattle.cqs_cli_streams.specs.Sayings.{Broke, MustEnd, Wrote}
 use Rattle.cqs_cli_histories.specs.Studies.{HasForm, IsBadText, IsIllegalInput, IsLegalInput, IsNotLegal, IsStudyText}
 use Rattle.cqs_cli_histories.specs.declared.studies.Study.{Study}
 

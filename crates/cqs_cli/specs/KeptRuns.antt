@@ -10,7 +10,7 @@ use Rattle.cqs_plan_generator.specs.Generated.{plan_of_number}
 use Rattle.cqs_turns_report.specs.Report.{report_of}
 use Rattle.cqs_floor_alone_kinds.specs.declared.any_sole.AnySole.{AnySole}
 use Rattle.cqs_floor_alone_kinds.specs.declared.running_sole.RunningSole.{RunningSole}
-use Rattle.cqs_cli.specs.Input.{IsInput}
+use Rattle.cqs_cli_streams.specs.Input.{IsInput}
 use Rattle.cqs_floor_alone.specs.Ledger.{Ledger, plain_floor}
 use Rattle.cqs_floor_alone_kinds.specs.SoleRunning.{IsAloneAt, store_running}
 use Rattle.cqs_cli.specs.Plans.{IsFaultLine, floor_after}

@@ -1,5 +1,4 @@
 pub mod Meanings
-pub mod Input
 pub mod Plans
 pub mod Standard
 pub mod Summaries

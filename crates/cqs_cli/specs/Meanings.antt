@@ -3,11 +3,11 @@ use Rattle.std.specs.Prelude.{◌≡◌, ℕ, ◌⊎◌, List, [], ◌∷◌, le
 use Rattle.cqs_cli_streams.specs.Stream.{Gains, GainsPrefix}
 use Rattle.cqs_cli_streams.specs.Tally.{StopsAfter, StopsWithin}
 use Rattle.cqs_cli_streams.specs.declared.streams.tally.Tally.{Tally}
-use Rattle.cqs_cli.specs.Input.{IsInput}
+use Rattle.cqs_cli_streams.specs.Input.{IsInput}
 use Rattle.cqs_cli.specs.Plans.{IsFaultLine, IsReport}
 use Rattle.cqs_cli.specs.Summaries.{IsSummary}
 use Rattle.cqs_cli.specs.Words.{IsCommand, IsRun, IsStudy, usage}
-use Rattle.cqs_cli.specs.declared.statuses.TheConstants.{BAD_TEXT, DONE, NO_COMMAND, NO_MEMORY, NO_PLAN, NOT_LEGAL, SINK_FAILED, SOURCE_FAILED, TOO_LONG}
+use Rattle.cqs_cli_streams.specs.declared.statuses.TheConstants.{BAD_TEXT, DONE, NO_COMMAND, NO_MEMORY, NO_PLAN, NOT_LEGAL, SINK_FAILED, SOURCE_FAILED, TOO_LONG}
 use Rattle.cqs_cli_histories.specs.Studies.{IsBadText, IsNotLegal, IsStudyText}
 use Rattle.cqs_cli_histories.specs.declared.studies.Study.{Study}
 
@@ -83,7 +83,3 @@ pub record BrokeOff (words : List (List ℕ)) (left after held now : Option (Lis
 abbrev pub IsStatus : ℕ → Type 0
 IsStatus = Contains (DONE ∷ NO_COMMAND ∷ NO_PLAN ∷ SOURCE_FAILED ∷ SINK_FAILED ∷ NO_MEMORY
     ∷ TOO_LONG ∷ BAD_TEXT ∷ NOT_LEGAL ∷ [])
-
--- the status that must come, unless there was no memory
-abbrev pub MustEnd : ℕ → ℕ → Type 0
-MustEnd status result = (result ≡ status) ⊎ (result ≡ NO_MEMORY)

@@ -5,7 +5,7 @@ use Rattle.cqs_cli_streams.specs.Stream.{GivesCount}
 use Rattle.cqs_cli_streams.specs.declared.streams.reading.TheConstants.{LONGEST_INPUT}
 use Rattle.cqs_cli_streams.specs.declared.streams.tally.Tally.{Tally}
 use Rattle.cqs_cli_streams.specs.Tally.{StopsWithin}
-use Rattle.cqs_cli.specs.Input.{IsInput}
+use Rattle.cqs_cli_streams.specs.Input.{IsInput}
 use Rattle.cqs_cli.specs.Plans.{IsFaultLine, IsReport}
 use Rattle.cqs_cli.specs.Summaries.{IsSummary, IsSummaryOf}
 use Rattle.cqs_cli.specs.Words.{IsCommand, IsRun, IsStudy, Reads}

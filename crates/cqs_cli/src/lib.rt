@@ -17,7 +17,6 @@ mod judging;
 mod kept;
 mod plans;
 mod standard;
-mod statuses;
 mod studying;
 mod summaries;
 mod telling;
@@ -25,12 +24,12 @@ mod top_call;
 mod verdict;
 mod words;
 
+pub use cqs_cli_streams::{
+    BAD_TEXT, DONE, NO_COMMAND, NO_MEMORY, NO_PLAN, NOT_LEGAL, SINK_FAILED, SOURCE_FAILED, TOO_LONG,
+};
 pub use cqs_floor_alone::{CoreFloor, QueueFloor};
 pub use kept::Kept;
 pub use standard::{StdinSource, StdoutSink};
-pub use statuses::{
-    BAD_TEXT, DONE, NO_COMMAND, NO_MEMORY, NO_PLAN, NOT_LEGAL, SINK_FAILED, SOURCE_FAILED, TOO_LONG,
-};
 pub use telling::tell;
 pub use top_call::top_alone;
 pub use verdict::Verdict;

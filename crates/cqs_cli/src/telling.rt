@@ -1,14 +1,15 @@
 //! The telling of a verdict: it knows the sink alone.
 
-ghost use Rattle.cqs_cli.specs.Tellings.{Says, Tells, studied_status, studied_text};
+ghost use Rattle.cqs_cli.specs.Tellings.{Tells, studied_status, studied_text};
+ghost use Rattle.cqs_cli_streams.specs.Sayings.{Says};
 
-use crate::statuses::{
-    BAD_TEXT, DONE, NO_COMMAND, NO_MEMORY, NO_PLAN, NOT_LEGAL, SINK_FAILED, SOURCE_FAILED, TOO_LONG,
-};
 use crate::verdict::Verdict;
 use crate::words::USAGE;
 use cqs_cli_histories::Studied;
-use cqs_cli_streams::{Sink, write_all};
+use cqs_cli_streams::{
+    BAD_TEXT, DONE, NO_COMMAND, NO_MEMORY, NO_PLAN, NOT_LEGAL, SINK_FAILED, SOURCE_FAILED, Sink,
+    TOO_LONG, write_all,
+};
 
 /// Writes what a verdict has to say, and gives the status that the call ends with.
 pub fn tell<K: Sink>(sink: &mut K, verdict: &Verdict) -> u8

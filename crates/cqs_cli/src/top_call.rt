@@ -8,9 +8,8 @@ ghost use Rattle.cqs_cli.specs.declared.kept.Kept.TheVariants.{Nothing};
 
 use crate::judging::judge;
 use crate::kept::Kept;
-use crate::statuses::DONE;
 use crate::telling::tell;
-use cqs_cli_streams::{Sink, Source};
+use cqs_cli_streams::{DONE, Sink, Source};
 use std::alloc::Global;
 
 /// One call for the commands that have no workers: does what the words say and gives the status

@@ -7,7 +7,7 @@ use Rattle.cqs_cli_streams.specs.declared.streams.tally.Tally.{Tally}
 use Rattle.cqs_cli_top.specs.declared.kept.Kept.{Kept}
 use Rattle.cqs_cli_top.specs.declared.kept.Kept.TheVariants as kept_as
 use Rattle.cqs_work.specs.declared.plans.Worked.{Worked}
-use Rattle.cqs_cli.specs.declared.statuses.TheConstants.{DONE, NO_COMMAND, NO_MEMORY, NO_PLAN, SINK_FAILED, SOURCE_FAILED, TOO_LONG}
+use Rattle.cqs_cli_streams.specs.declared.statuses.TheConstants.{DONE, NO_COMMAND, NO_MEMORY, NO_PLAN, SINK_FAILED, SOURCE_FAILED, TOO_LONG}
 
 -- the line for words that are no command, by what the first of them is
 abbrev pub wrong_after : List ℕ → List ℕ

@@ -4,3 +4,5 @@ pub mod Script
 pub mod Stream
 pub mod Tally
 pub mod Stops
+pub mod Input
+pub mod Sayings

@@ -2,11 +2,15 @@
 //!
 //! A `Source` gives the bytes of an input and a `Sink` takes the text that answers it. Each counts
 //! its own faults, so that whoever reports one can show that it came. `read_input` and `write_all`
-//! are the only loops over them.
+//! are the only loops over them. The statuses are those that a program's process ends with.
 #![tactic(auto)]
 
+mod statuses;
 mod streams;
 
+pub use statuses::{
+    BAD_TEXT, DONE, NO_COMMAND, NO_MEMORY, NO_PLAN, NOT_LEGAL, SINK_FAILED, SOURCE_FAILED, TOO_LONG,
+};
 pub use streams::bytes_sink::BytesSink;
 pub use streams::bytes_source::BytesSource;
 pub use streams::failed::Failed;

@@ -7,14 +7,15 @@ use Rattle.cqs_cli_streams.specs.declared.streams.sink.Sink.{Ghosts as Sink}
 use Rattle.cqs_cli_streams.specs.declared.streams.source.Source.{Ghosts as Source}
 use Rattle.cqs_cli_streams.specs.declared.streams.tally.Tally.{Tally}
 use Rattle.cqs_cli.specs.Contract.{IsCallOf}
-use Rattle.cqs_cli.specs.Meanings.{IsStatus, MustEnd}
+use Rattle.cqs_cli.specs.Meanings.{IsStatus}
 use Rattle.cqs_cli.specs.Plans.{IsPlan}
-use Rattle.cqs_cli.specs.Tellings.{Broke, Tells, Wrote}
+use Rattle.cqs_cli.specs.Tellings.{Tells}
 use Rattle.cqs_cli.specs.Verdicts.{HasTaken}
 use Rattle.cqs_cli.specs.Words.{IsSomeStudy}
 use Rattle.cqs_cli.specs.declared.verdict.Verdict.{Verdict}
 use Rattle.cqs_cli.specs.declared.verdict.Verdict.TheVariants as verdict
-use Rattle.cqs_cli.proofs.Inputs.{gave-as-many, input-told}
+use Rattle.cqs_cli_streams.proofs.Inputs.{gave-as-many, input-told}
+use Rattle.cqs_cli_streams.specs.Sayings.{Broke, MustEnd, Wrote}
 use Rattle.cqs_cli.proofs.MeaningLemmas.{all_statuses, stops-once}
 use Rattle.cqs_cli.proofs.PlanLemmas.{plan_has_no_fault}
 use Rattle.cqs_cli.proofs.WordLemmas.{begun-is-no-study}

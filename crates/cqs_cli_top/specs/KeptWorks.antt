@@ -2,7 +2,7 @@
 use Rattle.std.specs.Prelude.{◌≡◌, ℕ, ◌⊎◌, List, Option}
 use Rattle.cqs_plan.specs.declared.plans.plan.Plan.{Plan}
 use Rattle.cqs_plan_reader.specs.PlanText.{IsPlanText}
-use Rattle.cqs_cli.specs.Input.{IsInput}
+use Rattle.cqs_cli_streams.specs.Input.{IsInput}
 use Rattle.cqs_cli.specs.KeptRuns as alone
 use Rattle.cqs_cli.specs.Plans.{IsFaultLine}
 use Rattle.cqs_cli.specs.declared.kept.Kept.{Kept as KeptAlone}

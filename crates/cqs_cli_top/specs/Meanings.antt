@@ -3,7 +3,7 @@ use Rattle.std.specs.Prelude.{ℕ, ◌⊎◌, List, length, Option}
 use Rattle.cqs_cli_streams.specs.Stream.{Gains, GainsPrefix}
 use Rattle.cqs_cli_streams.specs.Tally.{StopsWithin}
 use Rattle.cqs_cli_streams.specs.declared.streams.tally.Tally.{Tally}
-use Rattle.cqs_cli.specs.Input.{IsInput}
+use Rattle.cqs_cli_streams.specs.Input.{IsInput}
 use Rattle.cqs_cli.specs.Meanings as alone
 use Rattle.cqs_cli.specs.Plans.{IsFaultLine}
 use Rattle.cqs_cli_top.specs.Words.{IsSomeWork, IsWork}

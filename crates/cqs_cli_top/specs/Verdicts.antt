@@ -3,7 +3,7 @@ use Rattle.std.specs.Prelude.{◌≡◌, ℕ, ◌+◌, List, Option}
 use Rattle.cqs_cli_streams.specs.Counts.{Rises}
 use Rattle.cqs_cli_streams.specs.Stream.{GivesCount}
 use Rattle.cqs_cli_streams.specs.declared.streams.reading.TheConstants.{LONGEST_INPUT}
-use Rattle.cqs_cli.specs.Input.{IsInput}
+use Rattle.cqs_cli_streams.specs.Input.{IsInput}
 use Rattle.cqs_cli.specs.Plans.{IsFaultLine}
 use Rattle.cqs_cli.specs.declared.verdict.Verdict.{Verdict}
 use Rattle.cqs_cli.specs.declared.verdict.Verdict.TheVariants as verdict

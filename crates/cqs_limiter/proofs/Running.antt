@@ -11,7 +11,7 @@ use Rattle.cqs_limiter_workers.proofs.Dealt.{push-last}
 use Rattle.cqs_limiter_tenant.specs.declared.tenant.Tenant.{Tenant}
 use Rattle.cqs_limiter_tenant.specs.Made.{IsNew}
 use Rattle.cqs_limiter_tenant.specs.Tenants.{tenant_sight}
-use Rattle.cqs_limiter.specs.Limits.{all_opened, AreNew, IsAfter, HasLimited}
+use Rattle.cqs_limiter.specs.Limits.{all_opened, limited_by, AreNew, IsAfter, HasLimited}
 
 -- so many tenants are made
 pub record AreFirst (r : Requests) (many : ℕ) (tenants : List Tenant) : Type 0 where
@@ -58,7 +58,8 @@ can-run r tenants valid are = record {
 }
 
 pub has-limited : (r : Requests) (told : ℕ → ℕ → Bool) (tenants : List Tenant) (workers : ℕ) (l : Ran Tenant)
-    → AreNew r tenants → HasRun tenant_sight told r.asks.items tenants workers l → HasLimited r told workers l
+    → AreNew r tenants → HasRun tenant_sight told r.asks.items tenants workers l
+    → HasLimited r told workers (limited_by l)
 has-limited r told tenants workers l are ran = record {
   many = ran.many ∙ are.many;
   tenants = λ t x got.

@@ -9,6 +9,7 @@ use Rattle.cqs_limiter_workers.specs.Handing.{outcomes_of}
 use Rattle.cqs_limiter_tenant.specs.declared.tenant.Tenant.{Tenant}
 use Rattle.cqs_limiter_tenant.specs.Made.{IsNew}
 use Rattle.cqs_limiter_tenant.specs.Tenants.{view_of, standing_of}
+use Rattle.cqs_limiter.specs.declared.limits.Limited.{Limited}
 
 -- each tenant as it was opened
 abbrev pub all_opened : Requests → ℕ → Tenancy
@@ -25,7 +26,12 @@ pub record IsAfter (r : Requests) (t : ℕ) (x : Tenant) : Type 0 where
   pub standing : standing_of x ≡ after_asks (all_opened r) r.asks.items t
   pub seen : (view_of x).seen ≡ entries_in (all_opened r) t r.asks.items
 
-pub record HasLimited (r : Requests) (told : ℕ → ℕ → Bool) (workers : ℕ) (l : Ran Tenant)
+-- what a run of workers left, handed on
+abbrev pub limited_by : Ran Tenant → Limited
+limited_by ran =
+    record { tenants = ran.tenants; notes = ran.notes; tokens = ran.tokens; text = ran.text }
+
+pub record HasLimited (r : Requests) (told : ℕ → ℕ → Bool) (workers : ℕ) (l : Limited)
     : Type 0 where
   -- the tenants are all tenants, in order of place
   pub many : length l.tenants.items ≡ length r.permits.items

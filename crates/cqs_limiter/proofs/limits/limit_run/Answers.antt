@@ -13,7 +13,9 @@ run-requires-clause-can g c = λ κs bounds.
 pub returns : goal.returns
 returns g c =
     let told = told_by g.G.Gate.begun g.G.Gate.ended c.args.gate.now in
-    has-limited c.args.requests.now told c.in_ok-tenants.tenants.items c.args.workers c.in_ok-run.field-0
+    rw c.limited_by.ensures (
+    has-limited c.args.requests.now told c.in_ok-tenants.tenants.items c.args.workers c.in_ok-ran.ran
     c.in_ok-tenants.ensures
-    (subst (λ l. HasRun tenant_sight told l c.in_ok-tenants.tenants.items c.args.workers c.in_ok-run.field-0)
-    c.as_slice.ensures.value c.in_ok-run.ensures)
+    (subst (λ l. HasRun tenant_sight told l c.in_ok-tenants.tenants.items c.args.workers c.in_ok-ran.ran)
+    c.as_slice.ensures.value c.in_ok-ran.ensures)
+    )

@@ -21,7 +21,7 @@ pub const NO_MEMORY: u8 = 6;
 /// The input is too long.
 pub const TOO_LONG: u8 = 7;
 
-/// The input was no schedule, or no history, and the line that says where was written.
+/// The input was no schedule, no history, or no requests, and the line that says where was written.
 pub const BAD_TEXT: u8 = 8;
 
 /// The input was a history that isn't legal, and the line that says where was written.

@@ -1,0 +1,4 @@
+pub mod Apart
+pub mod OneAnswer
+pub mod Replied
+pub mod Calls

@@ -55,7 +55,7 @@ Reads words = IsRun words ⊎ IsSomeStudy words
 abbrev pub usage : List ℕ
 usage =
     codes "usage: cqs run\n       cqs work [--workers N]\n       cqs gen --number N --jobs M\n"
-    ++ codes "       cqs replay\n       cqs history\n       cqs check\n"
+    ++ codes "       cqs replay\n       cqs history\n       cqs check\n       cqs limit\n"
 
 -- the words are this command, or none
 abbrev pub IsCommandOf : List (List ℕ) → Option Command → Type 0

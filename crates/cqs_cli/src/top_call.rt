@@ -13,8 +13,8 @@ use cqs_cli_streams::{DONE, Sink, Source};
 use std::alloc::Global;
 
 /// One call for the commands that have no workers: does what the words say and gives the status
-/// that the process ends with. It takes no handle, so it returns. To it the words of `work` are no
-/// command: `top` of `cqs_cli_top` does them itself, and calls this for all others.
+/// that the process ends with. It takes no handle, so it returns. To it the words of `work` and of
+/// `limit` are no command: `top` of `cqs_cli_top` does them itself, and calls this for all others.
 ///
 /// `IsCallOf` says what each status means, what was read, which status must come where no fault
 /// does, and what is kept. What it says of content holds where the source and the sink tell it;

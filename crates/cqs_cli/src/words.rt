@@ -9,7 +9,7 @@ use itoa::Buffer;
 /// What is written where the words are no command.
 pub const USAGE: &str =
     "usage: cqs run\n       cqs work [--workers N]\n       cqs gen --number N --jobs M\
-     \n       cqs replay\n       cqs history\n       cqs check\n";
+     \n       cqs replay\n       cqs history\n       cqs check\n       cqs limit\n";
 
 /// A command of the program.
 #[derive(Drop)]

@@ -24,7 +24,9 @@ wrong_after first =
     codes "cqs: history has no more words; it reads a schedule: cqs history < core.schedule\n"
     else if bytes_eq first (codes "check") then
     codes "cqs: check has no more words; it reads a history: cqs check < log.history\n"
-    else codes "cqs: the first word is run, work, gen, replay, history or check, "
+    else if bytes_eq first (codes "limit") then
+    codes "cqs: limit has no more words; it reads requests: cqs limit < day.requests\n"
+    else codes "cqs: the first word is run, work, gen, replay, history, check or limit, "
     ++ codes "and all are UTF-8: cqs run < plan.toml\n"
 
 abbrev pub wrong_words : List (List ℕ) → List ℕ

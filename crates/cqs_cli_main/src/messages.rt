@@ -51,9 +51,10 @@ fn wrong_after(first: &str) -> &'static str
             "cqs: history has no more words; it reads a schedule: cqs history < core.schedule\n"
         }
         "check" => "cqs: check has no more words; it reads a history: cqs check < log.history\n",
+        "limit" => "cqs: limit has no more words; it reads requests: cqs limit < day.requests\n",
         _ => {
-            "cqs: the first word is run, work, gen, replay, history or check, and all are UTF-8: \
-             cqs run < plan.toml\n"
+            "cqs: the first word is run, work, gen, replay, history, check or limit, and all are \
+             UTF-8: cqs run < plan.toml\n"
         }
     }
 }

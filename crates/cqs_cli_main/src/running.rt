@@ -2,8 +2,7 @@
 ghost use Rattle.std.specs.Prelude.{◌≡◌, ◌≤◌, ◌⊎◌, map, string_bytes, IsTrue};
 ghost use Rattle.std.specs.Process.{exit_status};
 ghost use Rattle.cqs_cli_streams.specs.Counts.{Rises};
-ghost use Rattle.cqs_cli.specs.Contract.{IsCallOf};
-ghost use Rattle.cqs_cli_top.specs.Commands.{commands};
+ghost use Rattle.cqs_cli_top.specs.Calls.{IsProgramCall, all_told};
 ghost use Rattle.cqs_cli_top.specs.declared.kept.Kept.TheVariants.{Nothing};
 ghost use Rattle.cqs_cli_main.specs.Arguments.{RanOutOfMemory, words_of};
 ghost use Rattle.cqs_cli_main.specs.Messages.{IsAnswered};
@@ -37,7 +36,7 @@ pub fn run<R: Threads + Wait + Sync, S: Source + Remembers, K: Sink, E: Sink>(
 
     // It is a call of the program on the words of the command line, and the process ends with its
     // status. Or there was no memory for the words, and nothing was read, written or kept.
-    ensures call { IsCallOf commands S.Source K.Sink (words_of arguments)
+    ensures call { IsProgramCall all_told S.Source K.Sink (words_of arguments)
         source.old source.new sink.old sink.new kept.new (exit_status result)
         ⊎ ((exit_status result ≡ NO_MEMORY) × (source.new ≡ source.old) × (sink.new ≡ sink.old)
         × (kept.new ≡ Nothing)) }
@@ -73,7 +72,7 @@ fn run_words<R: Threads + Wait + Sync, S: Source + Remembers, K: Sink, E: Sink>(
     kept: &mut Kept<SharedQueueFloor>,
 ) -> ExitCode
     requires empty { kept.old ≡ Nothing }
-    ensures call { IsCallOf commands S.Source K.Sink (map string_bytes words.now)
+    ensures call { IsProgramCall all_told S.Source K.Sink (map string_bytes words.now)
         source.old source.new sink.old sink.new kept.new (exit_status result) }
     ensures message { IsAnswered (map string_bytes words.now) (exit_status result) kept.new
         (E.faults errors.old) (E.faults errors.new) (E.held errors.old) (E.held errors.new)

@@ -1,5 +1,5 @@
 -- What a call of the program keeps.
-use Rattle.std.specs.Prelude.{◌≡◌, ℕ, ◌⊎◌, List, Option}
+use Rattle.std.specs.Prelude.{◌≡◌, ℕ, ◌⊎◌, List, Option, Some, None}
 use Rattle.cqs_plan.specs.declared.plans.plan.Plan.{Plan}
 use Rattle.cqs_plan_reader.specs.PlanText.{IsPlanText}
 use Rattle.cqs_cli_streams.specs.Input.{IsInput}
@@ -7,10 +7,11 @@ use Rattle.cqs_cli.specs.KeptRuns as alone
 use Rattle.cqs_cli.specs.Plans.{IsFaultLine}
 use Rattle.cqs_cli.specs.declared.kept.Kept.{Kept as KeptAlone}
 use Rattle.cqs_cli.specs.declared.kept.Kept.TheVariants as alone_kept
+use Rattle.cqs_cli_limits.specs.Contract.{Limited as LimitedOn}
 use Rattle.cqs_floor_shared.specs.Shared.{Shared}
 use Rattle.cqs_work.specs.declared.plans.Worked.{Worked as WorkedOn}
 use Rattle.cqs_cli_top.specs.declared.kept.Kept.{Kept}
-use Rattle.cqs_cli_top.specs.declared.kept.Kept.TheVariants.{Nothing, Ran, Worked}
+use Rattle.cqs_cli_top.specs.declared.kept.Kept.TheVariants.{Nothing, Ran, Worked, Limited}
 use Rattle.cqs_cli_top.specs.Words.{IsSomeWork, IsWork}
 use Rattle.cqs_cli_top.specs.Working.{HaveWorked}
 use Rattle.cqs_cli_top.specs.WorkText.{work_text}
@@ -20,6 +21,12 @@ abbrev pub alone_of : {F : Type 0} → Kept F → KeptAlone
 alone_of Nothing = alone_kept.Nothing
 alone_of (Ran floor) = alone_kept.Ran floor
 alone_of (Worked worked) = alone_kept.Nothing
+alone_of (Limited limited) = alone_kept.Nothing
+
+-- what is kept of the command that replies to requests
+abbrev pub kept_limited : {F : Type 0} → Option LimitedOn → Kept F
+kept_limited (Some limited) = Limited limited
+kept_limited None = Nothing
 
 module _ {F : Type 0} (shared : F → Shared) where
   -- what is kept is what so many workers left of this plan, and the text is that of it

@@ -5,3 +5,4 @@ pub mod KeptWorks
 pub mod Verdicts
 pub mod Meanings
 pub mod Commands
+pub mod Calls

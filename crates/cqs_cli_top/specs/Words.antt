@@ -1,5 +1,5 @@
 -- Which words are a command of the program.
-use Rattle.std.specs.Prelude.{◌≡◌, ℕ, ◌≤◌, ◌⊎◌, List, [], ◌∷◌, Option, Some, None, codes}
+use Rattle.std.specs.Prelude.{◌≡◌, ℕ, ◌≤◌, ◌⊎◌, Bool, true, false, List, [], ◌∷◌, Option, Some, None, codes}
 use Rattle.std.specs.Fmt.{decimal}
 use Rattle.cqs_cli.specs.Words.{IsRun}
 use Rattle.cqs_cli.specs.Words as alone
@@ -21,7 +21,17 @@ pub record IsWork (workers : ℕ) (words : List (List ℕ)) : Type 0 where
 abbrev pub IsSomeWork : List (List ℕ) → Type 0
 IsSomeWork words = (workers : ℕ) × IsWork workers words
 
--- the words are a command: one of those that `top_alone` does, or that of the workers
+-- the words of the command that replies to requests
+abbrev pub IsLimit : List (List ℕ) → Type 0
+IsLimit words = words ≡ codes "limit" ∷ []
+
+-- the words are they, or not
+abbrev pub IsLimitOf : List (List ℕ) → Bool → Type 0
+IsLimitOf words true = IsLimit words
+IsLimitOf words false = ¬ IsLimit words
+
+-- the words are a command, apart from `limit`: one of those that `top_alone` does, or that of the
+-- workers of plans
 abbrev pub IsCommand : List (List ℕ) → Type 0
 IsCommand words = alone.IsCommand words ⊎ IsSomeWork words
 

@@ -1,7 +1,7 @@
-//! The words of the command that has workers run a plan.
+//! The words of the commands that have workers.
 
 ghost use Rattle.std.specs.Prelude.{◌∷◌, [], map, string_bytes};
-ghost use Rattle.cqs_cli_top.specs.Words.{IsWorkOf};
+ghost use Rattle.cqs_cli_top.specs.Words.{IsLimitOf, IsWorkOf};
 
 use cqs_cli::read_number;
 
@@ -35,4 +35,21 @@ fn read_workers(word: &str, option: &str, number: &str) -> Option<u32>
     } else {
         None
     }
+}
+
+/// Whether the words are those of `limit`.
+pub fn is_limit(words: &[String]) -> bool
+    ensures { IsLimitOf (map string_bytes words.now) result }
+{
+    match words {
+        [word] => is_limit_word(word.as_str()),
+        _ => false,
+    }
+}
+
+/// Whether one word is.
+fn is_limit_word(word: &str) -> bool
+    ensures { IsLimitOf (word.now ∷ []) result }
+{
+    word == "limit"
 }

@@ -3,7 +3,7 @@ use Rattle.std.proofs.Common.{rules}
 use Rattle.cqs_floor_shared_any.specs.AnyShares.{share_any}
 use Rattle.cqs_floor_shared_queue.specs.Ledgers.{shared_in}
 use Rattle.cqs_cli_top.proofs.Alone.{of_alone}
-use Rattle.cqs_cli_top.proofs.top_call.top.Goals as goal
+use Rattle.cqs_cli_top.proofs.top_call.top_for_plans.Goals as goal
 
 pub returns-in-None : goal.returns-in-None
 returns-in-None g c =

@@ -52,6 +52,21 @@ fn tell_meeting<R: Threads + Wait + Sync + Files + Print + AllocGlobal>(
     Ok(())
 }
 
+/// The two workers of `limit`, of which each is held until the other has come so far.
+fn tell_requests<R: Threads + Wait + Sync + Print + AllocGlobal>(rt: &R) -> anyhow::Result<()> {
+    let alloc = rt.alloc();
+    let gate = Meeting::new();
+    let requests = "tenants 1 1\nenter 0 5\nenter 1 6\nleave 1 6\n";
+    let said = call_by(rt, alloc, &words_of(alloc, "limit")?, requests, &gate)?;
+    anyhow::ensure!(said.status == DONE, "the status is {}", said.status);
+    print!(rt; "{}", said.text.as_str())?;
+    println!(rt;
+        "a worker of requests was held in vain: {}",
+        gate.was_in_vain(rt)
+    )?;
+    Ok(())
+}
+
 /// Four workers, of whom the first is stalled in the middle of its turn until the others have
 /// ended.
 fn tell_stall<R: Threads + Wait + Sync + Files + Print + AllocGlobal>(
@@ -106,6 +121,7 @@ pub fn tell_gates<R: Threads + Wait + Sync + Files + Print + AllocGlobal>(
     rt: &R,
 ) -> anyhow::Result<()> {
     tell_meeting(rt)?;
+    tell_requests(rt)?;
     tell_calls(rt)?;
     tell_workers(rt, "4")?;
     tell_workers(rt, "16")?;

@@ -8,12 +8,14 @@
 //! after the last turn; `plain summary NUMBER JOBS` prints that text.
 //! `plain check first` and `plain check last` judge a history with a million entries, or with as many as a number after them says, in which
 //! many callers wait and are served from the first of the line on, or from the last. They count along the line who is among its first.
+//! `plain requests` writes requests of 64 tenants, of one mebibyte, and `plain limit` replies to them by a loop over a table of tenants, and
+//! prints the nanoseconds and a sum over the text; `plain replies` prints that text.
 //! `plain free`, `plain pairs` and `plain leaves` make the rounds of the running queue on atomic words, `plain leave` and
 //! `plain leave-behind` those of a semaphore whose waiter looks and leaves; `plain wake-never`, `plain wake-guarded` and `plain wake-called`
 //! those of a wait that is served, by one who wakes nobody, who asks first whether anybody sleeps, or who makes the system call in any
 //! case. `ROUNDS` after them is how many.
 
-use std::collections::VecDeque;
+use std::collections::{HashMap, VecDeque};
 use std::fmt::Write as _;
 use std::io::Write as _;
 use std::sync::atomic::{AtomicU64, Ordering::SeqCst};
@@ -782,6 +784,124 @@ fn time_check(last: bool, most: usize) {
     let _ = writeln!(std::io::stdout(), "check {nanoseconds} entries {} held {}", entries.len(), judge.held);
 }
 
+const TENANTS: usize = 64;
+
+/// Where a client of a tenant is.
+#[derive(Clone, Copy, PartialEq)]
+enum Place {
+    Out,
+    Waiting(u64),
+    Served,
+    Holding,
+}
+
+/// A tenant: its free permits, the next number to wait under, who waits, and where each client is.
+struct Tenant {
+    free: u32,
+    next: u64,
+    line: VecDeque<(u64, u32)>,
+    places: HashMap<u32, Place>,
+}
+
+impl Tenant {
+    /// Replies to a request, behind the request and a space.
+    fn reply(&mut self, client: u32, verb: &str, text: &mut String) {
+        let place = self.places.get(&client).copied().unwrap_or(Place::Out);
+        let then = match (verb, place) {
+            ("enter", Place::Out) if self.free > 0 => {
+                self.free -= 1;
+                text.push_str("now");
+                Place::Holding
+            }
+            ("enter", Place::Out) => {
+                let number = self.next;
+                self.next += 1;
+                self.line.push_back((number, client));
+                let _ = write!(text, "waits {number}");
+                Place::Waiting(number)
+            }
+            ("look", Place::Served) => {
+                text.push_str("granted");
+                Place::Holding
+            }
+            ("look", Place::Waiting(_)) => {
+                text.push_str("pending");
+                place
+            }
+            ("quit", Place::Served) => {
+                text.push_str("late");
+                Place::Holding
+            }
+            ("quit", Place::Waiting(number)) => {
+                self.line.retain(|(other, _)| *other != number);
+                text.push_str("gone");
+                Place::Out
+            }
+            ("leave", Place::Holding) => {
+                match self.line.pop_front() {
+                    Some((number, served)) => {
+                        self.places.insert(served, Place::Served);
+                        let _ = write!(text, "sent {number}");
+                    }
+                    None => {
+                        self.free += 1;
+                        text.push_str("freed");
+                    }
+                }
+                Place::Out
+            }
+            _ => {
+                text.push_str("refused");
+                place
+            }
+        };
+        if then != place {
+            self.places.insert(client, then);
+        }
+    }
+}
+
+/// The request at a place: the verb, the tenant, the client. They are mixed as by chance.
+fn request_at(at: u32) -> (&'static str, usize, u32) {
+    let drawn = at.wrapping_mul(2_654_435_761);
+    let verb = match (drawn >> 20) % 8 {
+        0 | 2 | 4 => "enter",
+        1 | 5 => "look",
+        6 => "quit",
+        _ => "leave",
+    };
+    (verb, (drawn >> 8) as usize % TENANTS, (drawn >> 14) % 6)
+}
+
+/// All requests, with their text: as many as it has room for.
+fn requests() -> (Vec<(&'static str, usize, u32)>, String) {
+    let mut text = format!("tenants{}\n", " 2".repeat(TENANTS));
+    let mut all = Vec::new();
+    for at in 0.. {
+        let (verb, tenant, client) = request_at(at);
+        let line = format!("{verb} {tenant} {client}\n");
+        if text.len() + line.len() > LARGE {
+            return (all, text);
+        }
+        text.push_str(&line);
+        all.push((verb, tenant, client));
+    }
+    unreachable!()
+}
+
+/// Replies to all of them, one after the other.
+fn replies(requests: &[(&'static str, usize, u32)]) -> String {
+    let mut tenants: Vec<Tenant> = Vec::new();
+    tenants.resize_with(TENANTS, || Tenant { free: 2, next: 0, line: VecDeque::new(), places: HashMap::new() });
+    let mut text = String::new();
+    for (verb, tenant, client) in requests {
+        let _ = write!(text, "{verb} {tenant} {client} ");
+        tenants[*tenant].reply(*client, verb, &mut text);
+        text.push('\n');
+    }
+    text
+}
+
 /// Does what a command with a number and a count of jobs says; tells whether they are such.
 fn with_number(command: &str, number: &str, jobs: &str) -> bool {
     let (Ok(number), Ok(jobs)) = (number.parse(), jobs.parse()) else {
@@ -819,6 +939,19 @@ fn main() {
             print!("{}", large_plan());
             true
         }
+        ["requests"] => {
+            print!("{}", requests().1);
+            true
+        }
+        ["replies"] => {
+            print!("{}", replies(&requests().0));
+            true
+        }
+        ["limit"] => {
+            let (all, _) = requests();
+            time_text("limit", || replies(&all));
+            true
+        }
         ["free", ..] => {
             time_rounds("free", rounds(), 0, free_round);
             true
@@ -853,7 +986,7 @@ fn main() {
         _ => false,
     };
     if !known {
-        let usage = "usage: plain plan | make | run | report NAME [TURNS]; or plain gen | summary NUMBER JOBS; or plain large; or plain check first | last [ENTRIES]; or plain free | pairs | leaves | leave | leave-behind | wake-never | wake-guarded | wake-called [ROUNDS]";
+        let usage = "usage: plain plan | make | run | report NAME [TURNS]; or plain gen | summary NUMBER JOBS; or plain large | requests | limit | replies; or plain check first | last [ENTRIES]; or plain free | pairs | leaves | leave | leave-behind | wake-never | wake-guarded | wake-called [ROUNDS]";
         let _ = writeln!(std::io::stderr(), "{usage}");
         std::process::exit(2);
     }

@@ -1,6 +1,7 @@
 //! Times what the program does with a plan on standard input: the parse of its document, the
 //! reading of the plan, its run, or the reading and the run together, beside a plain fold over the
-//! same parse; and its run by workers. And times the plan of a number, and the judge of a history.
+//! same parse; and its run by workers. And times the plan of a number, the judge of a history, and
+//! the replies to requests.
 //! Rounds of calls are timed by `cqs_bench_calls`.
 //!
 //! Each part prints one line, which starts with its word and its nanoseconds.
@@ -8,6 +9,7 @@
 
 mod fold;
 mod histories;
+mod limits;
 mod words;
 mod work;
 
@@ -235,6 +237,7 @@ fn measure<R: Clock + Threads + Wait + Sync + Print + AllocGlobal, I: Read>(
         Asked::Number => status_of(time_number(rt)),
         Asked::Check => histories::measure(rt, words),
         Asked::Work => work::measure(rt, words, input),
+        Asked::Limit => limits::measure(rt, words, input),
     }
 }
 

@@ -7,7 +7,8 @@ use std::process::ExitCode;
 const USAGE: &str = "usage: cqs_bench toml | plan | run | cores | whole | fold < PLAN\n       \
     cqs_bench gen\n       \
     cqs_bench check first | last [ENTRIES]\n       \
-    cqs_bench work WORKERS < PLAN, with 1 to 16 workers";
+    cqs_bench work WORKERS < PLAN, with 1 to 16 workers\n       \
+    cqs_bench limit WORKERS < REQUESTS, with 1 to 16 workers";
 
 const BAD_COMMAND: u8 = 2;
 
@@ -38,6 +39,8 @@ pub enum Asked {
     Check,
     /// The run of a plan by workers.
     Work,
+    /// The replies of workers to requests.
+    Limit,
 }
 
 /// In which order those who wait are served in a history that is judged.
@@ -76,6 +79,7 @@ pub fn asked_of(word: &str) -> Option<Asked> {
         "gen" => Some(Asked::Number),
         "check" => Some(Asked::Check),
         "work" => Some(Asked::Work),
+        "limit" => Some(Asked::Limit),
         _ => match part_of(word) {
             Some(part) => Some(Asked::Part(part)),
             None => None,

@@ -55,7 +55,6 @@ pub fn count_settled<C: ClientWords>(
 
 /// Takes a segment out where its 32 cells are counted and it isn't the last one. The slot is, or
 /// was, its home. The pass isn't to retire it any more then, whatever the answer.
-#[inline(always)]
 pub fn retire<C: ClientWords>(
     words: &Shared<Option<C::Slot>, View<C::Entry, C::Slot>, Key<C>, Rule<C>>,
     seat: &mut Seat<Option<C::Slot>, View<C::Entry, C::Slot>>,

@@ -38,7 +38,6 @@ pub(crate) fn load_tail<C: ClientWords>(
 }
 
 // The same by a pass that is to retire a segment: the last one is none of those any more.
-#[inline(always)]
 pub(crate) fn keep_last<C: ClientWords>(
     words: &Shared<Option<C::Slot>, View<C::Entry, C::Slot>, Key<C>, Rule<C>>,
     seat: &mut Seat<Option<C::Slot>, View<C::Entry, C::Slot>>,
@@ -72,7 +71,6 @@ pub(crate) fn load_head<C: ClientWords>(
     load_at::<C, HeadLoad<C>>(words, seat, head_at(slot))
 }
 
-#[inline(always)]
 pub(crate) fn load_count<C: ClientWords>(
     words: &Shared<Option<C::Slot>, View<C::Entry, C::Slot>, Key<C>, Rule<C>>,
     seat: &mut Seat<Option<C::Slot>, View<C::Entry, C::Slot>>,
@@ -267,7 +265,6 @@ pub(crate) fn add_count<C: ClientWords>(
 }
 
 // Frees the slot of the segment, if its head is still live with this id. It answers whether it was.
-#[inline(always)]
 pub(crate) fn retire_slot<C: ClientWords>(
     words: &Shared<Option<C::Slot>, View<C::Entry, C::Slot>, Key<C>, Rule<C>>,
     seat: &mut Seat<Option<C::Slot>, View<C::Entry, C::Slot>>,

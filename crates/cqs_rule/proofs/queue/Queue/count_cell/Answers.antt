@@ -1,4 +1,4 @@
-use Rattle.std.proofs.Common.{◌/◌}
+use Rattle.std.proofs.Common.{◌-◌, ◌/◌, ◌∙◌, rules}
 use Rattle.cqs_rule_laws.specs.SegmentSteps.{retiring_too}
 use Rattle.cqs_rule_laws.proofs.Places.{home-of-cell}
 use Rattle.cqs_rule.proofs.Counting.{all-counted, counted-last, counted-one, fewer-counted, home-then, last-of-one, low-then}
@@ -19,27 +19,32 @@ pub count_settled-counted-requires-clause-last : goal.count_settled-counted-requ
 count_settled-counted-requires-clause-last g c =
     (last-of-one c.args.seat.now.me.0.facts.duties (c.args.number / 32) c.requires.one).0
 
-pub retire-requires-clause-low : goal.retire-requires-clause-low
-retire-requires-clause-low g c =
+pub replace_with-requires : goal.replace_with-requires
+replace_with-requires g c =
     let n = c.count_settled-counted.ensures in
-    low-then (retiring_too (c.args.number / 32) c.args.seat.now.me.0) c.count_settled-counted.new.seat.me.0 _ _ _ _
-    (n.counted.all (all-counted c.if-from-eq-CELLS.true c.from.ensures))
-    (home-of-cell c.args.seat.now.me.0 c.args.word c.args.number c.requires.place).1
-
-pub retire-requires-clause-home : goal.retire-requires-clause-home
-retire-requires-clause-home g c =
-    let n = c.count_settled-counted.ensures in
-    home-then (retiring_too (c.args.number / 32) c.args.seat.now.me.0) c.count_settled-counted.new.seat.me.0 _ _ _ _ _
-    (n.counted.all (all-counted c.if-from-eq-CELLS.true c.from.ensures))
-    (home-of-cell c.args.seat.now.me.0 c.args.word c.args.number c.requires.place).2
+    let all = n.counted.all (all-counted c.if-from-eq-CELLS.true c.from.ensures) in
+    let cell = home-of-cell c.args.seat.now.me.0 c.args.word c.args.number c.requires.place in
+    let too = retiring_too (c.args.number / 32) c.args.seat.now.me.0 in (
+      n.table ∙ c.requires.table,
+      (
+        search rules,
+        (
+          low-then too c.count_settled-counted.new.seat.me.0 _ _ _ _ all cell.1,
+          (
+            search rules,
+            home-then too c.count_settled-counted.new.seat.me.0 _ _ _ _ _ all cell.2,
+          ),
+        ),
+      ),
+    )
 
 pub returns-then-from-eq-CELLS-clause-counted : goal.returns-then-from-eq-CELLS-clause-counted
 returns-then-from-eq-CELLS-clause-counted g c =
     let n = c.count_settled-counted.ensures in
-    counted-last c.args.seat.now.me.0 c.count_settled-counted.new.seat.me.0 c.retire.new.seat.me.0 _
-    (c.args.number / 32) c.retire.result c.requires.one c.requires.none
+    counted-last c.args.seat.now.me.0 c.count_settled-counted.new.seat.me.0 c.replace_with.new.dest.me.0
+    ((c.args.word - 144) / 48) (c.args.number / 32) c.replace_with.result c.requires.one c.requires.none
     (n.counted.all (all-counted c.if-from-eq-CELLS.true c.from.ensures))
-    (n.all.0 (all-counted c.if-from-eq-CELLS.true c.from.ensures)) c.retire.ensures.retires
+    (n.all.0 (all-counted c.if-from-eq-CELLS.true c.from.ensures)) (search rules)
 
 pub returns-else-from-eq-CELLS-clause-counted : goal.returns-else-from-eq-CELLS-clause-counted
 returns-else-from-eq-CELLS-clause-counted g c =

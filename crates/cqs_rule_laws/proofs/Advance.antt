@@ -26,6 +26,7 @@ use Rattle.cqs_rule_laws.specs.Settling.{times}
 use Rattle.cqs_rule_laws.proofs.Duties.{counted-set}
 use Rattle.cqs_rule_laws.proofs.ToRetire.{Leaves, leave-set}
 use Rattle.cqs_slots.proofs.Loads.{sees-same}
+use Rattle.cqs_rule_laws.specs.Ample.{IsAmple}
 use Rattle.cqs_rule_laws.specs.Segments.{KnowsSegments}
 use Rattle.cqs_rule_laws.proofs.Staying.{OthersStay}
 use Rattle.cqs_rule_laws.proofs.Segments.{knows-later}
@@ -100,7 +101,7 @@ slotted v facts seen handed crew alone drawn out laid =
 -- a view's numbers are those of cells, where the table has so many
 pub is-inside : {E S : Type 0} (w : View E S) (cells : ℕ) → w.cells ≡ cells → number_at w.facts.doing < cells
     → ((n : ℕ) → Has n w.facts.waits → n < cells) → IsDistinct w.facts.waits → w.facts.has.payload < 2 ^ 20
-    → w.cells ≤ 32 * length w.segments.homes → IsInside w
+    → (IsAmple w → w.cells ≤ 32 * length w.segments.homes) → IsInside w
 is-inside w cells are inside waits once owed made = record {
   number = subst (λ z. number_at w.facts.doing < z) (sym are) inside;
   waits = λ n h. subst (λ z. n < z) (sym are) (waits n h);

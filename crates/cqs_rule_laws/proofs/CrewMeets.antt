@@ -123,7 +123,11 @@ module _ {E S : Type 0} (object : Object E) (primitive : Primitive E S) (passes 
             (λ j x b e. set_all (λ i y. IsPrefix y.seen r.log) s.views id w (r.noted id v here)
             (λ i y a at. r.noted i y at) j x e);
         each_segment = set_all (λ j x. KnowsSegments r.slots r.segments x) mid other spent
-            (record { seen = knows-nothing r.segments; slots_are = λ on. absurd (omega arith); made = omega arith })
+            (record {
+              seen = knows-nothing r.segments;
+              slots_are = λ on. absurd (omega arith);
+              made = λ _. omega arith;
+            })
             (λ j x b e. set_all (λ i y. KnowsSegments r.slots r.segments y) s.views id w
             (record {
               seen = (r.each_segment id v here).seen;

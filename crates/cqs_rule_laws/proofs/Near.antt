@@ -1,11 +1,19 @@
 -- How far the drawn numbers are from the last segment that is made.
-use Rattle.std.proofs.Common.{◌⊎◌, ℕ, ◌+◌, ◌/◌, ◌<◌, ◌≤◌, arith, Option}
+use Rattle.std.proofs.Common.{◌≡◌, ◌⊎◌, ℕ, ◌+◌, ◌*◌, ◌/◌, ◌<◌, ◌≤◌, subst, ap, ◌∙◌, ⊎_elim, inl, inr, arith, Option, Some}
+use mathlib.Core.Option.{some}
+use lib.ListN.{get_elem?}
+use Rattle.cqs_core.specs.declared.doings.Doing.TheVariants as doing
+use Rattle.cqs_core.specs.QueueSound.{IsOwn, IsSound, IsTicket, IsUntaken}
 use Rattle.cqs_core.proofs.UnmadeCounts.{one-past}
 use Rattle.cqs_rule_laws.specs.declared.view.View.{View}
 use Rattle.cqs_rule_laws.specs.Client.{IsClient}
+use Rattle.cqs_core.specs.QueueCells.{IsInstalled}
 use Rattle.cqs_rule_laws.specs.Layout.{client_words}
+use Rattle.cqs_rule_laws.specs.Lists.{Has}
+use Rattle.std.proofs.lemmas.Bool.{cases_lt}
 use Rattle.cqs_rule_laws.specs.Object.{Object, Primitive}
-use Rattle.cqs_rule_laws.specs.Ruled.{Ruled}
+use Rattle.cqs_rule_laws.specs.Ruled.{IsWaitOf, Ruled, Stands}
+use Rattle.cqs_rule_laws.specs.SegmentSteps.{HasDrawn}
 use Rattle.atomic_table.specs.Table.{State}
 use Rattle.cqs_rule_laws.proofs.Stale.{unmade-empty}
 
@@ -21,3 +29,33 @@ drawn-near object primitive passes limit client s r k drawn =
     one-past r.hidden.queue r.segments.tail k
     (client.sound r.hidden (client_words s.words) r.log r.handed r.shown)
     (unmade-empty r.segments r.hidden _ s.words r.cells) (omega arith) drawn
+
+-- a number that a pass is to suspend or to resume at was drawn
+pub drawn-near-by : {E S : Type 0} (object : Object E) (primitive : Primitive E S) (passes limit : ℕ)
+    → IsClient object primitive → (s : State (Option S) (View E S))
+    (r : Ruled object primitive passes limit s) (id : ℕ) (v : View E S) (k : ℕ)
+    → get_elem? s.views id ≡ some v → 0 < v.weight → HasDrawn v k → k / 32 ≤ r.segments.tail + 1
+drawn-near-by object primitive passes limit client s r id v k here on has =
+    drawn-near object primitive passes limit client s r k (⊎_elim
+    (λ e. let own : IsOwn r.hidden.queue v.number k IsUntaken =
+    sound.passes.at v.number (doing.Drawn k) (at.doing ∙ ap Some e) in inl own.drawn)
+    (λ e. let ticket : IsTicket r.hidden.queue k =
+    sound.passes.at v.number (doing.Ticket k) (at.doing ∙ ap Some e) in inr ticket.reached) has)
+  where
+    at : Stands r.hidden v.number v.facts
+    at = (r.each_view id v here on).stands
+
+    sound : IsSound r.hidden.queue
+    sound = client.sound r.hidden (client_words s.words) r.log r.handed r.shown
+
+-- a wait stands in a cell, so its segment was made
+pub wait-made : {E S : Type 0} (object : Object E) (primitive : Primitive E S) (passes limit : ℕ)
+    → (s : State (Option S) (View E S)) (r : Ruled object primitive passes limit s) (id : ℕ) (v : View E S) (k : ℕ)
+    → get_elem? s.views id ≡ some v → 0 < v.weight → Has k v.facts.waits → k / 32 ≤ r.segments.tail
+wait-made object primitive passes limit s r id v k here on has =
+    let wait : IsWaitOf r.hidden.queue v.number k = (r.each_view id v here on).stands.waits k has in
+    let unmade = unmade-empty r.segments r.hidden _ s.words r.cells in
+    ⊎_elim (λ (low : k < 32 * (r.segments.tail + 1)). omega arith)
+    (λ (high : 32 * (r.segments.tail + 1) ≤ k). absurd (subst IsInstalled
+    (unmade.empty k wait.cell (omega arith) wait.there) wait.installed))
+    (cases_lt k (32 * (r.segments.tail + 1)))

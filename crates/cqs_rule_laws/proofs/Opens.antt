@@ -31,6 +31,7 @@ use Rattle.cqs_rule_laws.specs.Layout.{client_words, words_for, IsIdle}
 use Rattle.cqs_rule_laws.specs.Views.{first_view, all_own, first_facts, first_has}
 use Rattle.cqs_core.specs.declared.cells.CoreCell.{CoreCell}
 use Rattle.cqs_core.specs.QueueCells.{IsInstalled, IsBare}
+use Rattle.cqs_rule_laws.specs.Ample.{AreEnough}
 use Rattle.cqs_rule_laws.specs.Segments.{KnowsSegments}
 use Rattle.cqs_rule_laws.specs.Spares.{slots_of, AreSpare}
 use Rattle.cqs_rule_laws.specs.Ruled.{Ruled, Knows, IsWaitOf, word_of, word_at, Stands, cell_count, IsOverAt, IsOver}
@@ -128,10 +129,11 @@ module _ {E S : Type 0} (object : Object E) (primitive : Primitive E S) (passes 
 
   pub opens : IsClient object primitive → (words : List ℕ) (count : ℕ)
       → IsOpening (words_for slots) made primitive.values primitive.words words
-      → 0 < made → made ≤ slots → slots ≤ 65536 → cells_of ≤ 32 * made
+      → 0 < made → made ≤ slots → slots ≤ 65536 → primitive.values ≤ 32 * made
+      → (AreEnough cells_of passes slots → cells_of ≤ 32 * made)
       → 0 < passes → passes ≤ 32 → 0 < limit → limit ≤ 1048576 → primitive.values ≤ 4096
       → Ruled object primitive passes limit (opening words (replicate count None) first)
-  opens client words count o any_made fit most room any few any_limit low_limit few_values = record {
+  opens client words count o any_made fit most covers room any few any_limit low_limit few_values = record {
     hidden = h;
     log = [];
     handed = [];
@@ -241,8 +243,8 @@ module _ {E S : Type 0} (object : Object E) (primitive : Primitive E S) (passes 
       at x i low few = o.at (48 * x + (128 + i)) (omega arith)
           ∙ first-slot-at made values x i primitive.words few
 
-      made-first : cells_of ≤ 32 * length (first_segments made).homes
-      made-first = let long = numbers-length 0 made in omega arith
+      made-first : AreEnough cells_of passes slots → cells_of ≤ 32 * length (first_segments made).homes
+      made-first ample = let all = room ample in let long = numbers-length 0 made in omega arith
 
       live-head : (x : ℕ) → x < made → first_in_slot made values x 0 ≡ head_word x 2
       live-head x low = ap (λ b. if b then head_word x 2 else 0) (lt-ltb x made low)
@@ -329,7 +331,8 @@ module _ {E S : Type 0} (object : Object E) (primitive : Primitive E S) (passes 
           only-zero n has = let e = is-zero n has in omega arith
 
   -- what holds of each live pass's view holds of the first one
-  pub first-live : IsClient object primitive → 0 < passes → passes ≤ 32 → cells_of ≤ 32 * made → IsLive object first
+  pub first-live : IsClient object primitive → 0 < passes → passes ≤ 32
+      → (AreEnough cells_of passes slots → cells_of ≤ 32 * made) → IsLive object first
   first-live client any few room = record {
     legal = client.legal_shown h (four primitive.words) [] [] shown;
     unnamed = λ n above. refl;
@@ -343,7 +346,7 @@ module _ {E S : Type 0} (object : Object E) (primitive : Primitive E S) (passes 
       once = λ k has. absurd has;
       few = omega arith;
       payload = omega arith;
-      made = let long = numbers-length 0 made in omega arith;
+      made = λ ample. let long = numbers-length 0 made in let all = room ample in omega arith;
     };
   }
     where
@@ -389,30 +392,38 @@ config-bounds c good =
     let e : c.limit ≤ 1048576 = leb-true _ _ limit.1 in
     record { some_passes = omega arith; few_passes = b; some_limit = omega arith; low_limit = e }
 
+-- slots stay enough, as they are counted otherwise
+pub enough-then : (cells passes slots n : ℕ) → slots ≡ n → AreEnough cells passes slots → AreEnough cells passes n
+enough-then cells passes slots n same enough = omega arith
+
 -- the same by what the code computes of a configuration
 pub opens-by : {E S : Type 0} (object : Object E) (primitive : Primitive E S) → IsClient object primitive
     → (config : Config) (passes slots made : ℕ) (words items : List ℕ) (count : ℕ)
     → is_config config ≡ true → passes ≡ config.passes → words ≡ items
     → IsOpening (words_for slots) made primitive.values primitive.words items
-    → primitive.values ≤ 4096 → 0 < made → made ≤ slots → slots ≤ 65536
-    → cell_count config.passes config.limit primitive.values ≤ 32 * made
+    → primitive.values ≤ 4096 → 0 < made → made ≤ slots → slots ≤ 65536 → primitive.values ≤ 32 * made
+    → (AreEnough (cell_count config.passes config.limit primitive.values) config.passes slots
+    → cell_count config.passes config.limit primitive.values ≤ 32 * made)
     → Ruled object primitive passes config.limit
     (opening words (replicate count None)
     (first_view passes config.limit (cell_count passes config.limit primitive.values) slots made primitive.opening
     primitive.held))
 opens-by object primitive client config passes slots made words items count good is_passes is_words o few any_made fit
-    most room =
+    most covers room =
     let b = config-bounds config good in
     let any : 0 < passes = let h = b.some_passes in omega arith in
     let low : passes ≤ 32 = let h = b.few_passes in omega arith in
     let whole : IsOpening (words_for slots) made primitive.values primitive.words words =
     subst (λ (l : List ℕ). IsOpening (words_for slots) made primitive.values primitive.words l) (sym is_words) o in
-    opens object primitive passes config.limit slots made client words count whole any_made fit most (omega arith) any
-    low b.some_limit b.low_limit few
+    opens object primitive passes config.limit slots made client words count whole any_made fit most covers
+    (λ ample. let all = room (subst (λ n. AreEnough (cell_count n config.limit primitive.values) n slots) is_passes
+    ample) in omega arith)
+    any low b.some_limit b.low_limit few
 
 pub first-live-by : {E S : Type 0} (object : Object E) (primitive : Primitive E S) → IsClient object primitive
     → (config : Config) (slots made : ℕ) → is_config config ≡ true
-    → cell_count config.passes config.limit primitive.values ≤ 32 * made
+    → (AreEnough (cell_count config.passes config.limit primitive.values) config.passes slots
+    → cell_count config.passes config.limit primitive.values ≤ 32 * made)
     → IsLive {S = S} object (first_view config.passes config.limit
     (cell_count config.passes config.limit primitive.values) slots made
     primitive.opening primitive.held)

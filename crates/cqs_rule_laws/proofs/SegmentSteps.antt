@@ -1,5 +1,5 @@
 -- The steps on the words of segments: what each makes of the segments keeps the rule.
-use Rattle.std.proofs.Common.{◌≡◌, ◌≢◌, ◌⊎◌, ℕ, ◌+◌, ◌-◌, ◌*◌, ◌%◌, ◌^◌, ◌<◌, ◌≤◌, true, List, [], ◌∷◌, ◌++◌, length, length-append, set, sym, refl, ap, ◌∙◌, subst, ⊎_elim, inl, inr, arith, eqb, eq-eqb, ne_eqb, Option}
+use Rattle.std.proofs.Common.{◌≡◌, ◌≢◌, ◌⊎◌, ℕ, ◌+◌, ◌-◌, ◌*◌, ◌/◌, ◌%◌, ◌^◌, ◌<◌, ◌≤◌, true, List, [], ◌∷◌, ◌++◌, length, length-append, set, sym, refl, ap, ◌∙◌, subst, ⊎_elim, inl, inr, arith, eqb, eq-eqb, ne_eqb, Option}
 use Rattle.std.specs.Prelude.{slice_index, slice_set}
 use prog.Atomic.{either}
 use mathlib.Core.Option.{some}
@@ -40,6 +40,7 @@ use Rattle.cqs_rule_laws.specs.Settling.{times, duties_in}
 use Rattle.cqs_rule_laws.proofs.ToRetire.{Leaves, leaves-same, leaves-turned, leave-set, too, too-has}
 use Rattle.cqs_rule_laws.proofs.Duties.{counted-set, times-append, times-one, times-none}
 use Rattle.cqs_rule_laws.proofs.Lists.{set_there, one_there, set_all, total_set, one_of, has_append, has_left, has_right}
+use Rattle.cqs_rule_laws.proofs.Near.{drawn-near-by, wait-made}
 use Rattle.cqs_rule_laws.proofs.Outs.{own-stands}
 use Rattle.cqs_rule_laws.proofs.Segments.{knows-later, made-later}
 use Rattle.cqs_rule_laws.proofs.Shelves.{keeps-all, shelf-set}
@@ -183,8 +184,8 @@ module _ {E S : Type 0} (object : Object E) (primitive : Primitive E S) (passes 
             (let known = r.each_segment id v here in record {
               seen = loads.knows-all u;
               slots_are = known.slots_are;
-              made = made-later v.cells v.segments.homes u.homes
-                  (loads.knows-later r.segments u v.segments t.later known.seen).homes known.made;
+              made = λ ample. made-later v.cells v.segments.homes u.homes
+                  (loads.knows-later r.segments u v.segments t.later known.seen).homes (known.made ample);
             })
             (λ j x apart there. knows-later r.slots r.segments u x t.later (r.each_segment j x there));
       }
@@ -319,6 +320,14 @@ module _ {E S : Type 0} (object : Object E) (primitive : Primitive E S) (passes 
                 refl refl).0;
             stands = λ k own out. own-stands object primitive passes limit client s r id me.0 k here (omega arith) own
                 out;
+            near = λ k own. subst (λ z. k / 32 ≤ z + 1)
+                (sym (loads.tail-found r.slots r.segments (word_at r.hidden) s.words r.cells.shows r.cells.sound
+                w.segments refl refl).1)
+                (drawn-near-by object primitive passes limit client s r id me.0 k here (omega arith) own);
+            made = λ k has. subst (λ z. k / 32 ≤ z)
+                (sym (loads.tail-found r.slots r.segments (word_at r.hidden) s.words r.cells.shows r.cells.sound
+                w.segments refl refl).1)
+                (wait-made object primitive passes limit s r id me.0 k here (omega arith) has);
             went = t.1;
           },
           refl,

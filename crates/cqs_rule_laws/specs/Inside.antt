@@ -1,7 +1,8 @@
 -- The numbers of a pass are those of cells, each wait stands there once, and a payload fits a cell.
--- Each cell has a segment.
+-- In an ample table each cell has a segment.
 use Rattle.std.specs.Prelude.{◌≡◌, ℕ, ◌+◌, ◌*◌, ◌<◌, ◌≤◌, ◌^◌, length}
 use Rattle.cqs_rule_laws.specs.declared.view.View.{View}
+use Rattle.cqs_rule_laws.specs.Ample.{IsAmple}
 use Rattle.cqs_rule_laws.specs.Lists.{Has, without}
 use Rattle.cqs_rule_laws.specs.Ruled.{number_at}
 
@@ -13,4 +14,4 @@ pub record IsInside {E S : Type 0} (v : View E S) : Type 0 where
       → length (without k v.facts.waits) + 1 ≡ length v.facts.waits
   pub few : length v.facts.waits ≤ v.cells
   pub payload : v.facts.has.payload < 2 ^ 20
-  pub made : v.cells ≤ 32 * length v.segments.homes
+  pub made : IsAmple v → v.cells ≤ 32 * length v.segments.homes

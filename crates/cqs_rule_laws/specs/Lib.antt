@@ -4,6 +4,7 @@ pub mod Views
 pub mod Hidden
 pub mod Manner
 pub mod Object
+pub mod Ample
 pub mod Segments
 pub mod Spares
 pub mod Settling

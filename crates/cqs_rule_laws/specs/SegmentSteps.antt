@@ -1,7 +1,7 @@
 -- The steps on the words of segments: none is an event, and each leaves its pass at what it was at,
 -- but for the slots that it has spare, the cells that it is to count, and the segments that it is
 -- to retire.
-use Rattle.std.specs.Prelude.{◌≡◌, ◌≢◌, ◌⊎◌, ℕ, ◌+◌, ◌/◌, ◌<◌, ◌^◌, Bool, List, [], ◌∷◌, ◌++◌, length}
+use Rattle.std.specs.Prelude.{◌≡◌, ◌≢◌, ◌⊎◌, ℕ, ◌+◌, ◌/◌, ◌<◌, ◌≤◌, ◌^◌, Bool, List, [], ◌∷◌, ◌++◌, length}
 use Rattle.cqs_core.specs.declared.doings.Doing.TheVariants as doing
 use Rattle.cqs_words.specs.Head.{head_word}
 use Rattle.cqs_words.specs.Segment.{segment_word}
@@ -68,10 +68,17 @@ module _ {E S : Type 0} where
   abbrev pub OwnStand : View E S → View E S → Type 0
   OwnStand v w = (k : ℕ) → IsOwnNumber v k → Has (k / 32) w.segments.outs → ⊥
 
-  -- the tail was loaded
+  -- The pass drew this number, and is to suspend or to resume at its cell.
+  abbrev pub HasDrawn : View E S → ℕ → Type 0
+  HasDrawn v k = (v.facts.doing ≡ doing.Drawn k) ⊎ (v.facts.doing ≡ doing.Ticket k)
+
+  -- The tail was loaded. The segment of a number that the pass drew is at most one further, and
+  -- that of one at which it waits isn't.
   pub record TailLoaded (v : View E S) (n : ℕ) (w : View E S) : Type 0 where
     pub found : TailFound v.slots n w.segments
     pub stands : OwnStand v w
+    pub near : (k : ℕ) → HasDrawn v k → k / 32 ≤ found.id + 1
+    pub made : (k : ℕ) → Has k v.facts.waits → k / 32 ≤ found.id
     pub went : Went v.facts.spare_slots [] v w
 
   -- The tail was loaded by a pass that is to retire a segment. The last one is none of those any

@@ -14,8 +14,8 @@ pub struct Config {
     pub passes: u32,
     /// From this suspend counter on no pass draws a further number.
     pub limit: u64,
-    /// How many segments of cells the table has room for. It is checked, and not used before
-    /// segments are.
+    /// How many segments of cells the table has room for. A primitive takes more where these are
+    /// fewer than all that can be wanted.
     pub slots: u32,
 }
 

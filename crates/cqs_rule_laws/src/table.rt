@@ -2,6 +2,7 @@
 
 ghost use Rattle.std.specs.Prelude.{◌≡◌, ◌+◌, ◌-◌, ◌*◌, ◌<◌, ◌≤◌, ◌^◌, true, [], IfOk};
 ghost use Rattle.cqs_rule_laws.specs.Alone.{TellsAlone};
+ghost use Rattle.cqs_rule_laws.specs.Ample.{AreEnough};
 ghost use Rattle.cqs_rule_laws.specs.Configured.{is_config};
 ghost use Rattle.cqs_rule_laws.specs.Layout.{words_for};
 ghost use Rattle.cqs_rule_laws.specs.Opened.{first_in_slot, first_word, IsOpening};
@@ -142,7 +143,8 @@ fn opening_words<C: ClientWords>(
 }
 
 /// The table of a client's queue as it opens, with room for `slots` segments, of which the first
-/// `made` are made; and its one seat, whose pass has number 0 and has seen nothing.
+/// `made` are made: all that hold values, and in an ample table all that can be wanted; and its one
+/// seat, whose pass has number 0 and has seen nothing.
 pub fn open_table<C: ClientWords>(
     alloc: Global,
     config: &Config,
@@ -161,8 +163,11 @@ pub fn open_table<C: ClientWords>(
     requires some { 0 < made }
     requires fit { made ≤ slots }
     requires few_slots { slots ≤ 65536 }
-    requires room { cell_count config.now.passes config.now.limit (C.primitive client).values
-        ≤ 32 * made }
+    requires values { (C.primitive client).values ≤ 32 * made }
+    requires ample { AreEnough
+        (cell_count config.now.passes config.now.limit (C.primitive client).values)
+        config.now.passes slots
+        → cell_count config.now.passes config.now.limit (C.primitive client).values ≤ 32 * made }
     ensures key { IfOk result (λ opened. (opened.0.shared.key.client ≡ client)
         × (opened.0.shared.key.passes ≡ config.now.passes)
         × (opened.0.shared.key.limit ≡ config.now.limit)

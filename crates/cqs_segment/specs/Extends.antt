@@ -1,7 +1,7 @@
 -- What an extension answers.
 use Rattle.std.specs.Prelude.{◌≡◌, ◌≢◌, ◌⊎◌, ℕ, ◌+◌, ◌<◌, [], ◌∷◌, ◌++◌}
 use Rattle.cqs_words.specs.declared.segment.TailWord.{TailWord}
-use Rattle.cqs_words.specs.Segment.{packed_tail}
+use Rattle.cqs_words.specs.Segment.{packed_tail, TailFits}
 use Rattle.cqs_slots.specs.Slots.{IsHome}
 use Rattle.cqs_slots.specs.Told.{TailFound}
 use Rattle.cqs_rule_laws.specs.declared.view.View.{View}
@@ -30,7 +30,7 @@ module _ {E S : Type 0} where
       × (after.id < w.segments.lit))
 
   -- The spare became the segment after this one, which the pass is to retire then; or the tail was
-  -- found to be another.
+  -- found to be another, whose word this is.
   abbrev pub ExtendsTo : TailWord → ℕ → Extended → View E S → View E S → Type 0
   ExtendsTo after x (Made tail) v w =
       (tail ≡ record { id = after.id + 1; slot = x })
@@ -38,4 +38,4 @@ module _ {E S : Type 0} where
       × Left (but_last v.facts.spare_slots) v.facts.duties (retiring_too after.id v) w
   ExtendsTo after x (Seen tail) v w =
       (tail ≢ after) × TailFound w.slots (packed_tail tail) w.segments
-      × IsKept after x tail v w
+      × IsKept after x tail v w × TailFits tail

@@ -1,10 +1,11 @@
 -- Where a segment is told to be, how many of its cells are counted, and what became of it.
-use Rattle.std.specs.Prelude.{◌≡◌, ◌≢◌, ℕ, ◌+◌, ◌<◌, ◌≤◌, ◌++◌, [], ◌∷◌, List, length}
+use Rattle.std.specs.Prelude.{◌≡◌, ◌≢◌, ℕ, ◌+◌, ◌/◌, ◌<◌, ◌≤◌, ◌++◌, [], ◌∷◌, List, length}
+use Rattle.cqs_words.specs.declared.segment.TailWord.{TailWord}
 use Rattle.cqs_words.specs.Head.{head_word}
 use Rattle.cqs_slots.specs.Slots.{IsHome}
 use Rattle.cqs_rule_laws.specs.declared.view.View.{View}
 use Rattle.cqs_rule_laws.specs.Lists.{Has}
-use Rattle.cqs_rule_laws.specs.SegmentSteps.{LeftBy, retiring, retiring_too}
+use Rattle.cqs_rule_laws.specs.SegmentSteps.{HasDrawn, LeftBy, retiring, retiring_too}
 use Rattle.cqs_segment.specs.Walks.{but_last, Looked}
 use Rattle.cqs_segment.specs.declared.walk.Found.{Found}
 use Rattle.cqs_segment.specs.declared.walk.Found.TheVariants.{At, Over, Far}
@@ -12,12 +13,19 @@ use Rattle.cqs_segment.specs.declared.leaving.Retired.{Retired}
 use Rattle.cqs_segment.specs.declared.leaving.Retired.TheVariants.{Out, Gone, Last, Early}
 
 -- The segment was made in this slot, which is its home for good, and stood there when that was
--- loaded; or it was taken out, and isn't the last; or it wasn't made when the tail was loaded.
+-- loaded; or it was taken out, and isn't the last; or it wasn't made when the tail was loaded, and
+-- each segment at which the pass waits was.
 abbrev pub Finds : {E S : Type 0} → ℕ → Found → View E S → Type 0
 Finds s (At x) w =
     IsHome w.segments.homes s x × (x < w.slots) × (Has s w.segments.outs → ⊥)
 Finds s Over w = Has s w.segments.outs × (s + 1 < length w.segments.homes)
-Finds s Far w = length w.segments.homes ≤ s
+Finds s Far w =
+    (length w.segments.homes ≤ s)
+    × ((k : ℕ) → Has k w.facts.waits → k / 32 < length w.segments.homes)
+
+-- the segment of each number that the pass drew is at most one after this last one
+abbrev pub IsNear : {E S : Type 0} → TailWord → View E S → Type 0
+IsNear last v = (k : ℕ) → HasDrawn v k → k / 32 ≤ last.id + 1
 
 -- the segment was taken out, if its home is one of these slots
 abbrev pub HasLeftFrom : {E S : Type 0} → ℕ → ℕ → ℕ → View E S → View E S → Type 0

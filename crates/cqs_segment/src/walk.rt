@@ -4,7 +4,7 @@ ghost use Rattle.std.specs.Prelude.{◌≡◌, ◌+◌, ◌-◌, ◌<◌, ◌≤
 ghost use Rattle.cqs_words.specs.Segment.{TailFits, packed_tail};
 ghost use Rattle.cqs_slots.specs.Told.{TailFound};
 ghost use Rattle.cqs_rule_laws.specs.SegmentSteps.{LeftBy, OwnStand};
-ghost use Rattle.cqs_segment.specs.Finds.{Finds, HasLeftFrom};
+ghost use Rattle.cqs_segment.specs.Finds.{Finds, HasLeftFrom, IsNear};
 ghost use Rattle.cqs_segment.specs.Walks.{IsWalker, LookedAt};
 
 use crate::steps::{load_head, load_tail};
@@ -23,7 +23,8 @@ pub enum Found {
     Far,
 }
 
-/// The last segment, with its slot: one load.
+/// The last segment, with its slot: one load. The segment of a number that the pass drew is this
+/// one, or one before, or the next.
 pub fn last<C: ClientWords>(
     words: &Shared<Option<C::Slot>, View<C::Entry, C::Slot>, Key<C>, Rule<C>>,
     seat: &mut Seat<Option<C::Slot>, View<C::Entry, C::Slot>>,
@@ -34,6 +35,7 @@ pub fn last<C: ClientWords>(
     ensures found { TailFound seat.new.me.0.slots (packed_tail result)
         seat.new.me.0.segments }
     ensures fits { TailFits result }
+    ensures near { IsNear result seat.old.me.0 }
     ensures looked { LeftBy [] seat.old.me.0.facts.spare_slots seat.old.me.0.facts.duties
         seat.old.me.0 seat.new.me.0 }
     ensures bare { seat.new.me.1 ≡ seat.old.me.1 }

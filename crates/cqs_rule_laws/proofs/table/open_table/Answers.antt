@@ -6,7 +6,7 @@ use Rattle.cqs_rule_laws.specs.Saw.{IsLive}
 use Rattle.cqs_rule_laws.specs.Ruled.{cell_count}
 use Rattle.cqs_rule_laws.specs.Views.{first_view}
 use Rattle.cqs_rule_laws.proofs.Alone.{alone-now}
-use Rattle.cqs_rule_laws.proofs.Opens.{opens-by, first-live-by}
+use Rattle.cqs_rule_laws.proofs.Opens.{enough-then, opens-by, first-live-by}
 use Rattle.cqs_rule_laws.proofs.table.open_table.Goals as goal
 
 pub vacant-requires : goal.vacant-requires
@@ -17,7 +17,12 @@ vacant-requires g c =
     c.as_slice.ensures.value c.in_ok-words.ensures c.requires.few (omega (arith, c.from-made.ensures, c.requires.some))
     (omega (arith, c.from-made.ensures, c.from-slots.ensures, c.requires.fit))
     (omega (arith, c.from-slots.ensures, c.requires.few_slots))
-    (omega (arith, c.from-made.ensures, c.requires.room))
+    (omega (arith, c.from-made.ensures, c.requires.values))
+    (λ enough. omega (
+      arith,
+      c.from-made.ensures,
+      c.requires.ample (enough-then _ _ _ _ c.from-slots.ensures enough),
+    ))
 
 pub returns-clause-key : goal.returns-clause-key
 returns-clause-key g c = IfOk-weaker c.vacant.result _ _ (λ opened h. (
@@ -50,7 +55,12 @@ returns-clause-seat g c =
     (omega (arith, c.from-made.ensures, c.requires.some))
     (omega (arith, c.from-made.ensures, c.from-slots.ensures, c.requires.fit))
     (omega (arith, c.from-slots.ensures, c.requires.few_slots))
-    (omega (arith, c.from-made.ensures, c.requires.room)) in
+    (omega (arith, c.from-made.ensures, c.requires.values))
+    (λ enough. omega (
+      arith,
+      c.from-made.ensures,
+      c.requires.ample (enough-then _ _ _ _ c.from-slots.ensures enough),
+    )) in
     let alone = alone-now C.object C.primitive _ _ x keeps _ rule 0 _ refl in
     let first = ap (λ (k : ℕ × ℕ × ℕ). first_view {E = g.row.C-Entry.Denot} {S = g.row.C-Slot.Denot} k.0 config.limit
     (cell_count k.0 config.limit p.values) k.1 k.2 p.opening p.held)
@@ -59,6 +69,6 @@ returns-clause-seat g c =
     let view = ap (λ m. m.0) h.4 in (
       h.4 ∙ ap (λ v. (v, [])) first,
       subst (IsLive C.object) (sym (view ∙ first))
-          (first-live-by C.object p keeps config c.args.slots c.args.made c.requires.good c.requires.room),
+          (first-live-by C.object p keeps config c.args.slots c.args.made c.requires.good c.requires.ample),
       subst (TellsAlone C.primitive) (sym view) alone,
     )) c.vacant.ensures

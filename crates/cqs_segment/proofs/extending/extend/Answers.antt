@@ -54,6 +54,7 @@ returns-then-ne-clause-extends g c =
       subst (λ z. TailFound z (packed_tail tail) v.segments) (sym (ap (λ z. z.slots) began.went.is))
           began.found,
       inl start.3,
+      c.begin-tail.ensures.fits,
     )
 
 pub returns-then-ne-2-clause-extends : goal.returns-then-ne-2-clause-extends
@@ -75,7 +76,7 @@ returns-then-ne-2-clause-extends g c =
     c.args.after.slot u.facts.duties (packed_tail found) y left c.swap_tail-found.ensures.extended different in
     let up = (c.swap_tail-found.ensures.extended.missed different).segments.lit in
     let lit = c.make_live.ensures.lit in
-    (other, missed.0, inr (missed.1, omega arith))
+    (other, missed.0, inr (missed.1, omega arith), c.swap_tail-found.ensures.fits)
 
 pub returns-clause-extends : goal.returns-clause-extends
 returns-clause-extends g c =

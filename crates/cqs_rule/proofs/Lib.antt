@@ -11,6 +11,9 @@ pub mod Slots
 pub mod Ticketless
 pub mod Words
 pub mod Histories
+pub mod Claims
+pub mod Extends
+pub mod Makes
 pub mod Segments
 pub mod Counting
 pub mod Retired

@@ -1,11 +1,12 @@
 -- A pass after a call on segments.
-use Rattle.std.proofs.Common.{◌≡◌, ℕ, ◌<◌, ◌≤◌, List, [], ◌∷◌, ◌++◌, length, Option, refl, ap, sym, ◌∙◌, subst, ⊎_elim, inl, inr, arith}
+use Rattle.std.proofs.Common.{◌≡◌, ℕ, ◌<◌, ◌≤◌, true, false, List, [], ◌∷◌, ◌++◌, length, Option, refl, ap, sym, ◌∙◌, subst, ⊎_elim, inl, inr, arith}
 use Rattle.std.proofs.lemmas.List.{append-nil}
 use Rattle.atomic_table.specs.Seated.{TableId}
 use Rattle.cqs_rule_laws.specs.declared.client.ClientWords.{Ghosts}
 use Rattle.cqs_rule_laws.specs.declared.view.Spare.{Spare}
 use Rattle.cqs_rule_laws.specs.declared.view.View.{View}
 use Rattle.cqs_rule_laws.specs.Alone.{TellsAlone}
+use Rattle.cqs_rule_laws.specs.Ample.{AreEnough, IsAmple}
 use Rattle.cqs_rule_laws.specs.Crew.{Met}
 use Rattle.cqs_rule_laws.specs.Facts.{is_owing}
 use Rattle.cqs_rule_laws.specs.Inside.{IsInside}
@@ -71,7 +72,7 @@ module _ {E S : Type 0} (v w : View E S) (heads : List (ℕ × ℕ)) (spares : L
     once = i.once;
     few = i.few;
     payload = i.payload;
-    made = let more = longer v w left.segments in let enough = i.made in omega arith;
+    made = λ ample. let more = longer v w left.segments in let enough = i.made ample in omega arith;
   })
 
   pub live-left : (object : Object E) → IsLive object v → IsLive object w
@@ -116,6 +117,20 @@ module _ {C S E : Type 0} {g : Ghosts C S E} where
   all-slots q p b =
       let mine = p.slots_are ∙ ap (λ (t : TableId). t.words) b.table in
       let theirs = q.slots_are in omega arith
+
+  -- its table is ample where the queue says so
+  pub ample-view : (q : Queue C S E) (p : Pass C S E g) → IsOf q p → q.ample ≡ true → IsAmple (pass_view p)
+  ample-view q p b is =
+      let enough = b.ample.0 is in
+      let slots = all-slots q p b in
+      subst (λ (n : ℕ × ℕ × ℕ). AreEnough n.0 n.1 n.2) (λ i. (sym b.cells i, sym b.passes i, slots i)) enough
+
+  pub scarce-view : (q : Queue C S E) (p : Pass C S E g) → IsOf q p → q.ample ≡ false → IsAmple (pass_view p) → ⊥
+  scarce-view q p b not ample =
+      let slots = all-slots q p b in
+      let is : q.ample ≡ true = b.ample.1 (subst (λ (n : ℕ × ℕ × ℕ). AreEnough n.0 n.1 n.2)
+      (λ i. (b.cells i, b.passes i, sym slots i)) ample) in
+      absurd (cc)
 
   -- a pass of the queue may walk over its slots
   pub walks : (q : Queue C S E) (p : Pass C S E g) → IsOf q p → IsWalker q.table.shared.table_id.words (pass_view p)
@@ -164,6 +179,7 @@ module _ {C S E : Type 0} {g : Ghosts C S E} where
         limit = ap (λ (z : View E S). z.limit) is ∙ b.limit;
         cells = ap (λ (z : View E S). z.cells) is ∙ b.cells;
         mode = b.mode;
+        ample = b.ample;
         live = live-left (pass_view p) (pass_view next) heads spares duties left g.object b.live;
         opening = ap (λ (z : View E S). z.opening) is ∙ b.opening;
         alone = alone-left (pass_view p) (pass_view next) heads spares duties left g.primitive b.alone;

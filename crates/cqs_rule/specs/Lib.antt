@@ -8,4 +8,5 @@ pub mod Histories
 pub mod Spares
 pub mod Homes
 pub mod Segments
+pub mod Claims
 pub mod Counting

@@ -1,5 +1,5 @@
 -- What contracts see of a resumption that a pass owes, and of its token.
-use Rattle.std.specs.Prelude.{◌≡◌, ℕ, ◌<◌, Option, Some, None}
+use Rattle.std.specs.Prelude.{◌≡◌, ℕ, Option, Some, None}
 use Rattle.cqs_core.specs.declared.doings.Doing.{Doing}
 use Rattle.cqs_core.specs.declared.doings.Doing.TheVariants as doing
 use Rattle.cqs_rule.specs.declared.queue.tokens.Under.{Under}
@@ -14,12 +14,6 @@ owes_at (Some k) = doing.Ticket k
 pub record OwesWith (facts : Facts) (payload : ℕ) (ticket : Option ℕ) : Type 0 where
   pub doing : facts.doing ≡ owes_at ticket
   pub owed : facts.has.payload ≡ payload
-
--- this is the last number that was drawn for the resumption, or 0 where none was, and there is a
--- cell for it
-pub record IsReached (cells : ℕ) (facts : Facts) (reached : ℕ) : Type 0 where
-  pub below : reached < cells
-  pub drawn : reached ≡ facts.reached
 
 -- the payload of a token, its open ticket, and the last number drawn for it
 abbrev pub under_payload : Under → ℕ

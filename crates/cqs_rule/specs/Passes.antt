@@ -1,18 +1,24 @@
 -- What contracts see of a queue and of a pass.
-use Rattle.std.specs.Prelude.{◌≡◌, ℕ, ◌+◌, ◌/◌, ◌<◌}
+use Rattle.std.specs.Prelude.{◌≡◌, ℕ, ◌+◌, ◌*◌, ◌/◌, ◌<◌, nat_le, true, Bool, if◌then◌else◌}
+use mathlib.Core.Logic.{◌↔◌}
 use Rattle.cqs_rule_laws.specs.declared.client.ClientWords.{Ghosts}
 use Rattle.cqs_rule_laws.specs.declared.config.CancelMode.{CancelMode}
+use Rattle.cqs_rule_laws.specs.declared.config.Config.{Config}
 use Rattle.cqs_rule_laws.specs.declared.config.Place.{Place}
 use Rattle.cqs_rule_laws.specs.declared.view.View.{View}
 use Rattle.cqs_rule_laws.specs.Alone.{TellsAlone}
+use Rattle.cqs_rule_laws.specs.Ample.{AreEnough}
 use Rattle.cqs_rule_laws.specs.Ruled.{cell_count}
 use Rattle.cqs_rule_laws.specs.Saw.{IsLive}
 use Rattle.cqs_rule.specs.declared.queue.Pass.{Pass}
 use Rattle.cqs_rule.specs.declared.queue.Queue.{Queue}
 
--- how many segments so many cells fill, with one to spare
-abbrev pub segments_for : ℕ → ℕ
-segments_for cells = cells / 32 + 1
+-- how many segments are made as a table opens: all that can be wanted, where the slots are enough,
+-- or else those of the values and of the first numbers
+abbrev pub made_at_first : Config → ℕ → ℕ
+made_at_first config values =
+    let cells = cell_count config.passes config.limit values in
+    (if nat_le (cells / 32 + 2 * config.passes + 2) config.slots then cells else values) / 32 + 1
 
 module _ {C S E : Type 0} where
   -- the client that the queue was made with
@@ -35,6 +41,10 @@ module _ {C S E : Type 0} where
   abbrev pub limit_of : Queue C S E → ℕ
   limit_of q = q.limit
 
+  -- whether its slots are enough for all segments that can be wanted
+  abbrev pub ample_of : Queue C S E → Bool
+  ample_of q = q.ample
+
   -- the place is that of a word of its table
   abbrev pub IsInTable : Queue C S E → Place → Type 0
   IsInTable q at = at.word < q.table.shared.table_id.words
@@ -53,6 +63,8 @@ module _ {C S E : Type 0} {g : Ghosts C S E} where
     pub cells : p.seat.me.0.cells ≡ cell_count q.table.shared.key.passes q.limit
         (g.primitive q.table.shared.key.client).values
     pub mode : (g.primitive q.table.shared.key.client).opening.mode ≡ q.mode
+    pub ample : (q.ample ≡ true) ↔ AreEnough (cell_count q.table.shared.key.passes q.limit
+        (g.primitive q.table.shared.key.client).values) q.table.shared.key.passes q.segment_slots
     pub live : IsLive g.object p.seat.me.0
     pub opening : p.seat.me.0.opening ≡ (g.primitive q.table.shared.key.client).opening
     pub alone : TellsAlone g.primitive p.seat.me.0

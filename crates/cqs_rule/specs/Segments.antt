@@ -20,6 +20,12 @@ ExtendsAlone after x (Made tail) v w =
     × IsMade tail w × Left (but_last v.facts.spare_slots) v.facts.duties v w
 ExtendsAlone after x (Seen tail) v w = ExtendsTo after x (Seen tail) v w
 
+-- The last spare slot is the home of the segment after this one now, and the pass is to retire
+-- none; or the slot stays spare.
+abbrev pub ExtendsLast : {E S : Type 0} → TailWord → Extended → View E S → View E S → Type 0
+ExtendsLast after answer v w =
+    (x : ℕ) × EndsWith v.facts.spare_slots x × ExtendsAlone after x answer v w
+
 module _ {C S E : Type 0} {g : Ghosts C S E} where
   -- how many slots for segments the pass's table has
   abbrev pub slot_count : Pass C S E g → ℕ
@@ -52,9 +58,6 @@ module _ {C S E : Type 0} {g : Ghosts C S E} where
   HasGivenBack p p' =
       LeftBy [] (but_last (spares_of p)) (pass_view p).facts.duties (pass_view p) (pass_view p')
 
-  -- its last spare slot is the home of the segment after this one now, and it is to retire none; or
-  -- the slot stays spare
+  -- its last spare slot is that of the segment after this one now, or stays spare
   abbrev pub HasExtended : TailWord → Extended → Pass C S E g → Pass C S E g → Type 0
-  HasExtended after answer p p' =
-      (x : ℕ) × EndsWith (spares_of p) x
-      × ExtendsAlone after x answer (pass_view p) (pass_view p')
+  HasExtended after answer p p' = ExtendsLast after answer (pass_view p) (pass_view p')

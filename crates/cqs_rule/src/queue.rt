@@ -9,9 +9,11 @@ ghost use Rattle.cqs_rule.specs.Homes.{KnowsHomes};
 ghost use Rattle.cqs_rule.specs.Spares.{HasSpare};
 ghost use Rattle.cqs_slots.specs.Layout.{slot_words};
 
+mod claiming;
 mod counting;
 mod histories;
 mod homes;
+mod making;
 mod opening;
 mod parked;
 mod parking;
@@ -42,6 +44,8 @@ pub struct Queue<C: ClientWords> {
     passes: u32,
     limit: u64,
     segment_slots: u32,
+    // Whether the slots are enough for all segments that can be wanted, which then are made.
+    ample: bool,
     mode: CancelMode,
     parked: Parked,
     ghost passes_are: { table.shared.key.passes ≡ passes },

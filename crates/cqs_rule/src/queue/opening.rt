@@ -1,10 +1,10 @@
 //! How a queue is made.
 
-ghost use Rattle.std.specs.Prelude.{◌≡◌, ◌≤◌, false, IfOk, IsErrOf};
+ghost use Rattle.std.specs.Prelude.{◌≡◌, ◌/◌, ◌<◌, ◌≤◌, false, true, length, IfOk, IsErrOf};
 ghost use mathlib.Core.Logic.{◌↔◌};
 ghost use Rattle.cqs_rule_laws.specs.Configured.{is_config};
 ghost use Rattle.cqs_rule_laws.specs.Manner.{mode_for};
-ghost use Rattle.cqs_rule.specs.Passes.{pass_view, client_of, passes_of, limit_of, mode_of, segments_for, slots_of, IsOf};
+ghost use Rattle.cqs_rule.specs.Passes.{pass_view, ample_of, client_of, passes_of, limit_of, mode_of, made_at_first, slots_of, IsOf};
 ghost use Rattle.cqs_rule_laws.specs.Ruled.{cell_count};
 ghost use Rattle.cqs_rule_laws.specs.Views.{first_view};
 
@@ -18,6 +18,7 @@ use std::alloc::Global;
 
 impl<C: ClientWords> Queue<C> {
     /// A queue on a table of its own, and its first pass, which has number 0 and has seen nothing.
+    /// The values at first need slots for their cells.
     pub fn new(
         alloc: Global,
         config: Config,
@@ -25,6 +26,7 @@ impl<C: ClientWords> Queue<C> {
         client: C,
     ) -> Result<(Queue<C>, Pass<C>), MakeError>
         requires few { (C.primitive client).values ≤ 4096 }
+        requires fit { is_config config ≡ true → (C.primitive client).values / 32 < config.slots }
         requires mode { (C.primitive client).opening.mode ≡ mode }
         requires manner { mode_for (C.primitive client).manner.leaving ≡ mode }
         ensures bad_config { IsErrOf result MakeError.BadConfig ↔ (is_config config ≡ false) }
@@ -36,8 +38,7 @@ impl<C: ClientWords> Queue<C> {
         ensures pass { IfOk result (λ made. pass_view made.1
             ≡ first_view config.passes config.limit
             (cell_count config.passes config.limit (C.primitive client).values)
-            (segments_for (cell_count config.passes config.limit (C.primitive client).values))
-            (segments_for (cell_count config.passes config.limit (C.primitive client).values))
+            config.slots (made_at_first config (C.primitive client).values)
             (C.primitive client).opening (C.primitive client).held) }
         ensures slots { IfOk result (λ made. slots_of made.0 ≡ C.value_slots client) }
     {
@@ -46,14 +47,23 @@ impl<C: ClientWords> Queue<C> {
         }
         let held = client.held();
         let cells = config.limit + u64::from(config.passes) + u64::from(client.values());
-        // As long as no slot is used again, each segment that is ever wanted is made at first.
-        let segment_slots = (cells / CELLS) as u32 + 1;
-        let (table, seat) = open_table(alloc, &config, segment_slots, segment_slots, client)?;
+        // Where there are slots enough for all segments that can be wanted, and for the spare ones
+        // of all passes, no call has to make one.
+        let spares = 2 * u64::from(config.passes);
+        let ample = cells / CELLS + spares + 2 <= u64::from(config.slots);
+        let filled = if ample {
+            cells
+        } else {
+            u64::from(client.values())
+        };
+        let made = (filled / CELLS) as u32 + 1;
+        let (table, seat) = open_table(alloc, &config, config.slots, made, client)?;
         let queue = Queue {
             table,
             passes: config.passes,
             limit: config.limit,
-            segment_slots,
+            segment_slots: config.slots,
+            ample,
             mode,
             parked: Parked::new(),
         };
@@ -71,5 +81,39 @@ impl<C: ClientWords> Queue<C> {
                 homes: Homes::none(),
             },
         ))
+    }
+
+    /// The same with slots for all segments that can be wanted, where the configuration has fewer:
+    /// no call needs a spare slot then.
+    pub fn ample(
+        alloc: Global,
+        config: Config,
+        mode: CancelMode,
+        client: C,
+    ) -> Result<(Queue<C>, Pass<C>), MakeError>
+        requires few { (C.primitive client).values ≤ 4096 }
+        requires mode { (C.primitive client).opening.mode ≡ mode }
+        requires manner { mode_for (C.primitive client).manner.leaving ≡ mode }
+        ensures bad_config { IsErrOf result MakeError.BadConfig ↔ (is_config config ≡ false) }
+        ensures client { IfOk result
+            (λ made. (client_of made.0 ≡ client) × (passes_of made.0 ≡ config.passes)) }
+        ensures mode { IfOk result
+            (λ made. (limit_of made.0 ≡ config.limit) × (mode_of made.0 ≡ mode)) }
+        ensures belongs { IfOk result (λ made. IsOf made.0 made.1) }
+        ensures pass { IfOk result (λ made. pass_view made.1
+            ≡ first_view config.passes config.limit
+            (cell_count config.passes config.limit (C.primitive client).values)
+            (pass_view made.1).slots (length (pass_view made.1).segments.homes)
+            (C.primitive client).opening (C.primitive client).held) }
+        ensures slots { IfOk result (λ made. slots_of made.0 ≡ C.value_slots client) }
+        ensures ample { IfOk result (λ made. ample_of made.0 ≡ true) }
+    {
+        if !config.is_in_range() {
+            return Err(MakeError::BadConfig);
+        }
+        let cells = config.limit + u64::from(config.passes) + u64::from(client.values());
+        let enough = (cells / CELLS) as u32 + 2 * config.passes + 2;
+        let slots = config.slots.max(enough);
+        Queue::new(alloc, Config { slots, ..config }, mode, client)
     }
 }

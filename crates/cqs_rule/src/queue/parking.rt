@@ -26,6 +26,7 @@ impl<C: ClientWords> Queue<C> {
 
     /// Wakes the caller that parks on this cell, if there is one. Whoever changed the cell calls it
     /// after that.
+    #[inline(always)]
     pub fn wake_cell(&self, at: Place)
         requires inside { IsInTable self.now at }
     {

@@ -6,14 +6,18 @@ ghost use Rattle.cqs_words.specs.Segment.{TailFits, packed_tail};
 ghost use Rattle.cqs_slots.specs.Slots.{IsHome};
 ghost use Rattle.cqs_rule_laws.specs.SegmentSteps.{OwnStand};
 ghost use Rattle.cqs_slots.specs.Told.{TailFound};
-ghost use Rattle.cqs_segment.specs.Finds.{Finds, Retires};
+ghost use Rattle.cqs_segment.specs.Finds.{Finds, IsNear, Retires};
 ghost use Rattle.cqs_segment.specs.Slots.{Confirms, SawAllTaken};
-ghost use Rattle.cqs_segment.specs.Walks.{LookedAt};
+ghost use Rattle.cqs_segment.specs.Walks.{IsWalker, LookedAt};
+ghost use Rattle.cqs_rule.specs.Claims.{IsClaimer};
 ghost use Rattle.cqs_rule.specs.Passes.{pass_view, IsOf};
-ghost use Rattle.cqs_rule.specs.Segments.{slot_count, spares_of, HasClaimed, HasExtended, HasGivenBack, HasLeft, HasPassed, HasStayed};
+ghost use Rattle.cqs_rule.specs.Segments.{slot_count, spares_of, ExtendsLast, HasClaimed, HasExtended, HasGivenBack, HasLeft, HasPassed, HasStayed};
 
+use crate::queue::spares::Spares;
 use crate::queue::{Pass, Queue};
-use cqs_rule_laws::{ClientWords, Crowded};
+use atomic_table::Seat;
+use core::mem::replace_with;
+use cqs_rule_laws::{ClientWords, Crowded, View};
 use cqs_segment::{Extended, Found, Retired};
 use cqs_words::TailWord;
 
@@ -65,19 +69,22 @@ impl<C: ClientWords> Queue<C> {
         cqs_segment::confirm::<C>(&self.table.shared, &mut pass.seat, slot, id)
     }
 
-    /// The last segment, with its slot: one load.
+    /// The last segment, with its slot: one load. The segment of a number that the pass drew is at
+    /// most one after it.
     pub fn last_segment(&self, pass: &mut Pass<C>) -> TailWord
         requires belongs { IsOf self.now pass.old }
         ensures belongs { IsOf self.now pass.new }
         ensures found { TailFound (slot_count pass.new) (packed_tail result)
             (pass_view pass.new).segments }
         ensures fits { TailFits result }
+        ensures near { IsNear result (pass_view pass.old) }
         ensures stayed { HasStayed pass.old pass.new }
     {
         cqs_segment::last::<C>(&self.table.shared, &mut pass.seat)
     }
 
     /// Where the segment stands: in a slot, or nowhere any more, or nowhere yet.
+    #[inline(always)]
     pub fn find_segment(&self, pass: &mut Pass<C>, id: u64) -> Found
         requires belongs { IsOf self.now pass.old }
         requires small { id < 2 ^ 36 }
@@ -86,7 +93,45 @@ impl<C: ClientWords> Queue<C> {
         ensures own { OwnStand (pass_view pass.new) (pass_view pass.new) }
         ensures looked { LookedAt (slot_count pass.old) (pass_view pass.old) (pass_view pass.new) }
     {
-        cqs_segment::find::<C>(&self.table.shared, &mut pass.seat, self.segment_slots, id)
+        replace_with(
+            &mut pass.seat,
+            id,
+            |seat, id|
+                requires table { seat.table_id ≡ self.now.table.shared.table_id }
+                requires walker { IsWalker self.now.table.shared.table_id.words seat.me.0 }
+                requires all { self.now.segment_slots ≡ seat.me.0.slots }
+                requires small { id < 2 ^ 36 }
+                ensures table { result.0.table_id ≡ seat.table_id }
+                ensures finds { Finds id result.1 result.0.me.0 }
+                ensures own { OwnStand result.0.me.0 result.0.me.0 }
+                ensures looked { LookedAt self.entry.now.segment_slots seat.me.0 result.0.me.0 }
+                ensures bare { result.0.me.1 ≡ seat.me.1 }
+            { self.find_apart(seat, id) },
+        )
+    }
+
+    // The search stands apart from its caller, and gets the seat by value, which has no bytes: with
+    // its address the pass would lie in memory in the caller, also where nothing is to be searched.
+    #[cold]
+    #[inline(never)]
+    fn find_apart(
+        &self,
+        seat: Seat<Option<C::Slot>, View<C::Entry, C::Slot>>,
+        id: u64,
+    ) -> (Seat<Option<C::Slot>, View<C::Entry, C::Slot>>, Found)
+        requires table { seat.table_id ≡ self.now.table.shared.table_id }
+        requires walker { IsWalker self.now.table.shared.table_id.words seat.me.0 }
+        requires all { self.now.segment_slots ≡ seat.me.0.slots }
+        requires small { id < 2 ^ 36 }
+        ensures table { result.0.table_id ≡ seat.table_id }
+        ensures finds { Finds id result.1 result.0.me.0 }
+        ensures own { OwnStand result.0.me.0 result.0.me.0 }
+        ensures looked { LookedAt self.now.segment_slots seat.me.0 result.0.me.0 }
+        ensures bare { result.0.me.1 ≡ seat.me.1 }
+    {
+        let mut seat = seat;
+        let found = cqs_segment::find::<C>(&self.table.shared, &mut seat, self.segment_slots, id);
+        (seat, found)
     }
 
     /// Makes the segment after this one in the slot that the pass claimed last, of those that it
@@ -99,24 +144,35 @@ impl<C: ClientWords> Queue<C> {
         ensures belongs { IsOf self.now pass.new }
         ensures extended { HasExtended after result pass.old pass.new }
     {
-        match pass.spares.split_last() {
+        let (spares, extended) = self.extend_by(&mut pass.seat, pass.spares, after);
+        pass.spares = spares;
+        extended
+    }
+
+    // The same by a seat, with the slots that it has spare. It answers those that are spare then.
+    pub(crate) fn extend_by(
+        &self,
+        seat: &mut Seat<Option<C::Slot>, View<C::Entry, C::Slot>>,
+        spares: Spares,
+        after: TailWord,
+    ) -> (Spares, Extended)
+        requires table { seat.old.table_id ≡ self.now.table.shared.table_id }
+        requires claimer { IsClaimer self.now spares seat.old.me.0 }
+        requires some { 0 < length seat.old.me.0.facts.spare_slots }
+        requires small { 32 * (after.id + 2) ≤ 2 ^ 40 }
+        ensures table { seat.new.table_id ≡ seat.old.table_id }
+        ensures claimer { IsClaimer self.now result.0 seat.new.me.0 }
+        ensures extended { ExtendsLast after result.1 seat.old.me.0 seat.new.me.0 }
+        ensures bare { seat.new.me.1 ≡ seat.old.me.1 }
+    {
+        match spares.split_last() {
             Some((slot, others)) => {
-                let extended = cqs_segment::extend::<C>(
-                    &self.table.shared,
-                    &mut pass.seat,
-                    after,
-                    slot,
-                );
+                let extended = cqs_segment::extend::<C>(&self.table.shared, seat, after, slot);
                 if let Extended::Made(_) = extended {
-                    pass.spares = others;
-                    cqs_segment::retire::<C>(
-                        &self.table.shared,
-                        &mut pass.seat,
-                        after.slot,
-                        after.id,
-                    );
+                    cqs_segment::retire::<C>(&self.table.shared, seat, after.slot, after.id);
+                    return (others, extended);
                 }
-                extended
+                (spares, extended)
             }
             None => unreachable!(),
         }

@@ -1,4 +1,5 @@
-//! Single steps on the words of the table: the counters and the cells.
+//! Single steps on the words of the table: the counters and the cells. They are compiled into their
+//! callers: a call would get the pass by its address, and then the pass would lie in memory.
 
 ghost use Rattle.std.specs.Prelude.{◌≡◌, ◌+◌, ◌<◌, ◌≤◌, ◌^◌};
 ghost use Rattle.cqs_core.specs.QueueSteps.{row_of};
@@ -57,6 +58,7 @@ impl<C: ClientWords> Queue<C> {
     /// Loads the suspend counter or a cell. A pass that finds the counter below the limit may draw,
     /// the owner of a wait learns in its cell what became of it, and a resume meets the cell of its
     /// number. A cell that is settled by that is counted.
+    #[inline(always)]
     pub fn load_table<L: Load>(&self, pass: &mut Pass<C>, word: u32) -> u64
         requires belongs { IsOf self.now pass.old }
         requires suits { LoadSuits (C.primitive (client_of self.now)).manner L.load }
@@ -81,6 +83,7 @@ impl<C: ClientWords> Queue<C> {
     }
 
     /// Draws the next number from a counter.
+    #[inline(always)]
     pub fn add_table<K: Kind>(&self, pass: &mut Pass<C>, word: u32, by: i64) -> u64
         requires belongs { IsOf self.now pass.old }
         requires suits { Suits (C.primitive (client_of self.now)).manner K.step }
@@ -105,6 +108,7 @@ impl<C: ClientWords> Queue<C> {
 
     /// Makes an exchange on a cell: that of the number which the pass is at, or that of a wait of
     /// its own. A cell that is settled by that is counted.
+    #[inline(always)]
     pub fn swap_table<K: Kind>(&self, pass: &mut Pass<C>, word: u32, saw: u64, new: u64) -> u64
         requires belongs { IsOf self.now pass.old }
         requires suits { Suits (C.primitive (client_of self.now)).manner K.step }

@@ -2,7 +2,7 @@
 
 ghost use Rattle.std.specs.Prelude.{◌≡◌, length, slice_get};
 ghost use Rattle.cqs_rule_laws.specs.Lists.{Has};
-ghost use Rattle.cqs_rule.specs.Owed.{OwesWith, IsReached, HasUnder, under_payload, under_ticket, under_reached};
+ghost use Rattle.cqs_rule.specs.Owed.{OwesWith, HasUnder, under_payload, under_ticket, under_reached};
 ghost use Rattle.cqs_rule.specs.Passes.{pass_view, IsOf};
 ghost use Rattle.cqs_rule_laws.specs.Placed.{KnowsPlace};
 ghost use Rattle.cqs_rule_laws.specs.Spares.{slots_of};
@@ -92,7 +92,7 @@ impl<C: ClientWords> Queue<C> {
     ) -> Under
         requires belongs { IsOf self.now pass.old }
         requires owes { OwesWith (pass_view pass.old).facts payload ticket }
-        requires reached { IsReached (pass_view pass.old).cells (pass_view pass.old).facts reached }
+        requires reached { reached ≡ (pass_view pass.old).facts.reached }
         ensures payload { under_payload result ≡ payload }
         ensures ticket { under_ticket result ≡ ticket }
         ensures reached { under_reached result ≡ reached }

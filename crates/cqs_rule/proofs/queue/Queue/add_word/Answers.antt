@@ -49,6 +49,7 @@ returns-clause-belongs g c =
       limit = same.limit ∙ b.limit;
       cells = same.cells ∙ b.cells;
       mode = b.mode;
+      ample = b.ample;
       live = e.told.2;
       opening = same.opening ∙ b.opening;
       alone = e.alone;

@@ -100,6 +100,7 @@ returns-clause-belongs g c =
       limit = m.limit ∙ b.limit;
       cells = m.cells ∙ b.cells;
       mode = b.mode;
+      ample = b.ample;
       live = e.told.3;
       opening = m.opening ∙ b.opening;
       alone = e.alone;

@@ -1,6 +1,8 @@
-use Rattle.std.proofs.Common.{◌≡◌, ◌∙◌, ◌<◌, ◌≤◌, ℕ, true, ap, sym, subst, length, arith}
+use Rattle.std.proofs.Common.{◌≡◌, ◌∙◌, ◌+◌, ◌*◌, ◌/◌, ◌<◌, ◌≤◌, ℕ, nat_le, true, ap, sym, subst, leb-true, le-leb, length, arith}
+use mathlib.Core.Logic.{◌↔◌}
 use Rattle.cqs_rule_laws.specs.declared.config.Config.{Config}
 use Rattle.cqs_rule_laws.specs.declared.view.View.{View}
+use Rattle.cqs_rule_laws.specs.Ample.{AreEnough}
 use Rattle.cqs_rule_laws.specs.Configured.{is_config}
 use Rattle.cqs_rule_laws.specs.Facts.{is_owing}
 use Rattle.cqs_rule_laws.specs.Layout.{words_for}
@@ -17,6 +19,14 @@ few-cells config values good few =
     let b = config-bounds config good in
     let passes = b.few_passes in
     let limit = b.low_limit in omega arith
+
+-- what the code computes of the slots, as it counts them
+enough-is : (cells passes slots n spares m : ℕ) → n ≡ cells → spares ≡ 2 * passes → m ≡ slots
+    → (nat_le (n / 32 + spares + 2) m ≡ true) ↔ AreEnough cells passes slots
+enough-is cells passes slots n spares m a b d = (
+  λ is. let h = leb-true (n / 32 + spares + 2) m is in omega arith,
+  λ enough. le-leb (n / 32 + spares + 2) m (omega arith),
+)
 
 pub invariant_of-result : goal.invariant_of-result
 invariant_of-result g c =
@@ -55,6 +65,10 @@ returns-clause-belongs g c =
       cells = ap (λ z. z.cells) me
           ∙ sym (λ i. cell_count (h.key.1 i) config.limit (C.primitive (h.key.0 i)).values);
       mode = ap (λ x. (C.primitive x).opening.mode) h.key.0 ∙ c.requires.mode;
+      ample = enough-is _ _ _ _ _ _
+          (omega (arith, c.from.ensures, c.from-2.ensures, c.values.ensures)
+          ∙ sym (λ i. cell_count (h.key.1 i) config.limit (C.primitive (h.key.0 i)).values))
+          (omega (arith, c.from-spares.ensures) ∙ sym (ap (λ n. 2 * n) h.key.1)) c.from-3.ensures;
       live = h.seat.1;
       opening = ap (λ z. z.opening) me ∙ sym (ap (λ x. (C.primitive x).opening) h.key.0);
       alone = h.seat.2;

@@ -64,6 +64,7 @@ returns-clause-belongs g c =
       limit = ap (λ z. z.limit) is ∙ b.limit;
       cells = ap (λ z. z.cells) is ∙ b.cells;
       mode = b.mode;
+      ample = b.ample;
       live = live-swapped _ _ _ swap C.object b.live;
       opening = ap (λ z. z.opening) is ∙ b.opening;
       alone = alone-swapped _ _ _ swap C.primitive b.alone;

@@ -1,2 +1,3 @@
+pub mod Far
 pub mod Numbers
 pub mod Searches

@@ -1,6 +1,7 @@
 -- What a search leaves: a step from there tells as much as one from where it began.
-use Rattle.std.proofs.Common.{ℕ, ◌≤◌, List, [], ◌++◌, length, refl, ap, subst, sym, ◌∙◌, arith}
+use Rattle.std.proofs.Common.{ℕ, ◌/◌, ◌≤◌, true, false, List, [], ◌++◌, length, refl, ap, subst, sym, ◌∙◌, arith}
 use Rattle.std.proofs.lemmas.List.{append-nil}
+use Rattle.cqs_rule_laws.specs.declared.view.Spare.{Spare}
 use Rattle.cqs_rule_laws.specs.declared.view.View.{View}
 use Rattle.cqs_rule_laws.specs.Object.{Object}
 use Rattle.cqs_rule_laws.specs.Saw.{Saw}
@@ -8,13 +9,14 @@ use Rattle.cqs_rule_laws.specs.SegmentSteps.{LeftBy}
 use Rattle.cqs_rule_laws.specs.Slots.{LaysNone}
 use Rattle.cqs_rule_laws.specs.Views.{IsSame}
 use Rattle.cqs_rule_laws.proofs.Calls.{same-here}
+use Rattle.cqs_segment.specs.Walks.{Left}
 use Rattle.cqs_find.specs.Finds.{facts_searched, longest_search, Searched}
 
 module _ {E S : Type 0} where
   -- the pass stays as it was but for what it has seen of the segments, and the heads that it found
-  pub same-left : (v w : View E S) (heads : List (ℕ × ℕ)) → LeftBy heads v.facts.spare_slots v.facts.duties v w
-      → IsSame v w
-  same-left v w heads left = subst (IsSame v) (sym left.is) (record {
+  pub same-left : (v w : View E S) (heads : List (ℕ × ℕ)) (spares : List Spare)
+      → LeftBy heads spares v.facts.duties v w → IsSame v w
+  same-left v w heads spares left = subst (IsSame v) (sym left.is) (record {
     number = refl;
     weight = refl;
     own = refl;
@@ -30,32 +32,51 @@ module _ {E S : Type 0} where
   })
 
 module _ {E S : Type 0} (object : Object E) where
-  -- loads of the tail and of heads
-  pub saw-left : (v w : View E S) (heads : List (ℕ × ℕ)) → LeftBy heads v.facts.spare_slots v.facts.duties v w
-      → Saw object v (facts_searched [] heads v.facts) [] w
-  saw-left v w heads left = record {
+  -- steps on segments
+  pub saw-left : (v w : View E S) (heads : List (ℕ × ℕ)) (spares : List Spare)
+      → LeftBy heads spares v.facts.duties v w → Saw object v (facts_searched [] heads spares v.facts) [] w
+  saw-left v w heads spares left = record {
     between = [];
     seen = ap (λ (z : View E S). z.seen) left.is ∙ sym (append-nil (v.seen ++ []) ∙ append-nil v.seen);
     silent = λ n h. refl;
     facts_are = ap (λ (z : View E S). z.facts) left.is
-        ∙ (λ i. record v.facts { heads = v.facts.heads ++ heads; found = sym (append-nil v.facts.found) i });
-    same = same-left v w heads left;
+        ∙ (λ i. record v.facts {
+          spare_slots = spares;
+          heads = v.facts.heads ++ heads;
+          found = sym (append-nil v.facts.found) i;
+        });
+    same = same-left v w heads spares left;
     handed = ([], ap (λ (z : View E S). z.handed) left.is ∙ sym (append-nil v.handed));
     unlaid = subst (λ (z : View E S). LaysNone v.laid z.laid) (sym left.is) (λ j bare. bare);
     sole = λ a. refl;
   }
 
   -- a search that found no more heads than there are slots
-  pub searched-few : (v w : View E S) (heads : List (ℕ × ℕ)) → v.slots ≤ longest_search → length heads ≤ v.slots
-      → LeftBy heads v.facts.spare_slots v.facts.duties v w → Searched object v w
-  searched-few v w heads few more left =
-      record { heads = heads; few = omega arith; saw = saw-left v w heads left }
+  pub searched-few : (k : ℕ) (v w : View E S) (heads : List (ℕ × ℕ)) → v.slots ≤ longest_search
+      → length heads ≤ v.slots → LeftBy heads v.facts.spare_slots v.facts.duties v w → Searched object k v w
+  searched-few k v w heads few more left = record {
+    heads = heads;
+    spares = v.facts.spare_slots;
+    search = record { far = false; is_far = λ is. absurd (cc); few = λ _. omega arith; kept = λ _. refl };
+    saw = saw-left v w heads v.facts.spare_slots left;
+  }
+
+  -- one for a segment that wasn't made
+  pub searched-far : (k : ℕ) (v w : View E S) (spares : List Spare) → length v.segments.homes ≤ k / 32
+      → (left : Left spares v.facts.duties v w) → Searched object k v w
+  searched-far k v w spares far left = record {
+    heads = left.0;
+    spares = spares;
+    search = record { far = true; is_far = λ _. far; few = λ is. absurd (cc); kept = λ is. absurd (cc) };
+    saw = saw-left v w left.0 spares left.1;
+  }
 
   -- no step at all
-  pub searched-none : (v : View E S) → Searched object v v
-  searched-none v = record {
+  pub searched-none : (k : ℕ) (v : View E S) → Searched object k v v
+  searched-none k v = record {
     heads = [];
-    few = omega arith;
+    spares = v.facts.spare_slots;
+    search = record { far = false; is_far = λ is. absurd (cc); few = λ _. omega arith; kept = λ _. refl };
     saw = record {
       between = [];
       seen = sym (append-nil (v.seen ++ []) ∙ append-nil v.seen);

@@ -1,18 +1,30 @@
 -- What a search for a cell answers, and what it leaves of the pass that looked.
-use Rattle.std.specs.Prelude.{◌≡◌, ℕ, ◌+◌, ◌*◌, ◌/◌, ◌<◌, ◌≤◌, List, [], ◌++◌, length}
+use Rattle.std.specs.Prelude.{◌≡◌, ℕ, ◌+◌, ◌*◌, ◌/◌, ◌<◌, ◌≤◌, Bool, true, false, List, [], ◌++◌, length}
 use Rattle.cqs_rule_laws.specs.declared.client.ClientWords.{Ghosts}
 use Rattle.cqs_rule.specs.declared.queue.Pass.{Pass}
 use Rattle.cqs_rule_laws.specs.declared.view.Facts.{Facts}
 use Rattle.cqs_rule_laws.specs.declared.view.Sighting.{Sighting}
+use Rattle.cqs_rule_laws.specs.declared.view.Spare.{Spare}
 use Rattle.cqs_rule_laws.specs.declared.view.View.{View}
+use Rattle.cqs_rule_laws.specs.Ample.{IsAmple}
 use Rattle.cqs_rule_laws.specs.Lists.{Has}
 use Rattle.cqs_rule_laws.specs.Object.{Object}
 use Rattle.cqs_rule.specs.Passes.{pass_view}
+use Rattle.cqs_segment.specs.declared.walk.Found as segment
+use Rattle.cqs_segment.specs.declared.walk.Found.TheVariants as segment_is
+use Rattle.cqs_segment.specs.Finds as segments
 use Rattle.cqs_rule_laws.specs.Placed.{KnowsPlace}
 use Rattle.cqs_rule_laws.specs.Saw.{Saw}
 use Rattle.cqs_rule_laws.specs.SegmentSteps.{OwnStand}
+pub use Rattle.cqs_segment.specs.Slots.{FoundTaken}
 use Rattle.cqs_find.specs.declared.found.Found.{Found}
 use Rattle.cqs_find.specs.declared.found.Found.TheVariants.{At, Over}
+
+-- a segment that is made was looked for
+abbrev pub FindsMade : {E S : Type 0} → ℕ → segment.Found → View E S → Type 0
+FindsMade s (segment_is.At x) w = segments.Finds s (segment_is.At x) w
+FindsMade s segment_is.Over w = segments.Finds s segment_is.Over w
+FindsMade s segment_is.Far w = ⊥
 
 module _ {E S : Type 0} where
   -- The segment of the number k was taken out, and isn't the last: all cells from k to below `next`
@@ -36,22 +48,45 @@ module _ {E S : Type 0} where
   Locates index v (At place) = (place.index ≡ index) × KnowsPlace v place
   Locates index v (Over next) = IsTakenOut index next v
 
+  -- The number's segment isn't made, the pass has no slot spare for it, and each slot was seen not
+  -- free at a step of the call. So the table isn't ample.
+  pub record IsCrowded (k : ℕ) (v w : View E S) : Type 0 where
+    pub spareless : v.facts.spare_slots ≡ []
+    pub none_left : w.facts.spare_slots ≡ []
+    pub far : length v.segments.homes ≤ k / 32
+    pub scarce : IsAmple v → ⊥
+    pub heads : List (ℕ × ℕ)
+    pub found : w.facts.heads ≡ v.facts.heads ++ heads
+    pub taken : (x : ℕ) → x < v.slots → FoundTaken x heads
+
 -- how many heads a search may find on its way: no table has more slots
 abbrev pub longest_search : ℕ
 longest_search = 65536
 
--- a pass at these facts that found these words besides, and these slots with their heads
-abbrev pub facts_searched : List Sighting → List (ℕ × ℕ) → Facts → Facts
-facts_searched found heads f = record f { heads = f.heads ++ heads; found = f.found ++ found }
+-- a pass at these facts that found these words besides, and these slots with their heads, and has
+-- these slots spare
+abbrev pub facts_searched : List Sighting → List (ℕ × ℕ) → List Spare → Facts → Facts
+facts_searched found heads spares f =
+    record f { spare_slots = spares; heads = f.heads ++ heads; found = f.found ++ found }
+
+-- A search for the cell of the number k found these heads, and left these slots spare. It claimed a
+-- slot, or made a segment, only where the pass knew of no segment of the number.
+pub record IsSearch {E S : Type 0} (k : ℕ) (v : View E S) (heads : List (ℕ × ℕ))
+    (spares : List Spare) : Type 0 where
+  pub far : Bool
+  pub is_far : far ≡ true → length v.segments.homes ≤ k / 32
+  pub few : far ≡ false → length heads ≤ longest_search
+  pub kept : far ≡ false → spares ≡ v.facts.spare_slots
 
 module _ {E S : Type 0} (object : Object E) where
-  -- A pass looked for a cell, by loads that show no event. It has found these heads on its way, and
-  -- is at what it was at.
-  pub record Searched (v w : View E S) : Type 0 where
+  -- A pass looked for the cell of the number k, by steps that show no event, and is at what it was
+  -- at.
+  pub record Searched (k : ℕ) (v w : View E S) : Type 0 where
     pub heads : List (ℕ × ℕ)
-    pub few : length heads ≤ longest_search
-    pub saw : Saw object v (facts_searched [] heads v.facts) [] w
+    pub spares : List Spare
+    pub search : IsSearch k v heads spares
+    pub saw : Saw object v (facts_searched [] heads spares v.facts) [] w
 
 module _ {C S E : Type 0} {g : Ghosts C S E} where
-  abbrev pub HasSearched : Pass C S E g → Pass C S E g → Type 0
-  HasSearched p p' = Searched g.object (pass_view p) (pass_view p')
+  abbrev pub HasSearched : ℕ → Pass C S E g → Pass C S E g → Type 0
+  HasSearched k p p' = Searched g.object k (pass_view p) (pass_view p')

@@ -4,7 +4,9 @@
 //!  number --- its segment is one that the pass keeps ------------------> At
 //!     |
 //!     '--- find: the tail, then the heads --- it stands in a slot -------> At, and is kept
-//!                                         '--- it was taken out ---------> Over
+//!                                         |--- it was taken out ---------> Over
+//!                                         '--- it isn't made: it is made, in a spare slot
+//!                                              of the pass, and looked for again
 //! ```
 #![tactic(auto)]
 

@@ -1,10 +1,10 @@
-use Rattle.std.proofs.Common.{◌+◌, ◌*◌, ◌%◌, refl, ap, subst, sym, arith}
-use Rattle.cqs_rule_laws.specs.declared.config.Place.{Place}
+use Rattle.std.proofs.Common.{◌/◌, subst, sym, ap, arith}
+use Rattle.cqs_segment.proofs.Walks.{longer}
 use Rattle.cqs_rule.specs.Passes.{pass_view}
 use Rattle.cqs_rule.proofs.Segments.{walks}
-use Rattle.cqs_find.specs.Finds.{Finds, Searched}
-use Rattle.cqs_find.specs.declared.found.Found.TheVariants.{At}
-use Rattle.cqs_find.proofs.Numbers.{below-cells, in-slot, not-far}
+use Rattle.cqs_find.specs.Finds.{Searched}
+use Rattle.cqs_find.proofs.Far.{crowded-later, far-searched, is-crowded, looked-again}
+use Rattle.cqs_find.proofs.Numbers.{below-cells, found-made, made-found}
 use Rattle.cqs_find.proofs.Searches.{searched-few}
 use Rattle.cqs_find.proofs.found.find.Goals as goal
 
@@ -14,44 +14,59 @@ find_segment-requires-clause-small g c =
     let low = below-cells (pass_view p) c.args.index p.inside c.requires.number in
     let few = p.few_cells in omega arith
 
-pub keep_place-requires-clause-place : goal.keep_place-requires-clause-place
-keep_place-requires-clause-place g c =
-    let f = c.in-At.ensures.finds in
-    in-slot (pass_view c.find_segment.new.pass) c.in-At.slot c.args.index _ f.0 f.1 (omega arith)
+pub returns-in-Err-clause-searched : goal.returns-in-Err-clause-searched
+returns-in-Err-clause-searched g c =
+    far-searched (pass_view c.args.pass.now) (pass_view c.find_segment.new.pass) _ c.in-Far.ensures.looked
+    g.C.ClientWords.object c.args.index (pass_view c.make_segment.new.pass) c.in-Far.ensures.finds.0
+    c.make_segment.ensures.left
 
-pub overflow_mul-result : goal.overflow_mul-result
-overflow_mul-result g c =
-    let p = c.args.pass.now in
-    let low = below-cells (pass_view p) c.args.index p.inside c.requires.number in
-    let few = p.few_cells in record { fits = omega arith }
-
-pub unreachable-requires : goal.unreachable-requires
-unreachable-requires g c =
-    let p = c.args.pass.now in
-    let w = c.find_segment.new.pass in
-    let low = below-cells (pass_view p) c.args.index p.inside c.requires.number in
-    not-far (pass_view w) c.args.index (pass_view p).cells w.inside low
-    (ap (λ z. z.cells) c.in-Far.ensures.looked.2.is) c.in-Far.ensures.finds
-
-pub returns-in-At-clause-finds : goal.returns-in-At-clause-finds
-returns-in-At-clause-finds g c =
-    let f = c.in-At.ensures.finds in
-    let w = pass_view c.find_segment.new.pass in
-    let at : Place = record { word = c.in-At.slot * 48 + 144 + c.args.index % 32; index = c.args.index } in
-    subst (λ z. Finds c.args.index z (At at)) (sym c.keep_place.ensures.same)
-    (refl, in-slot w c.in-At.slot c.args.index at.word f.0 f.1 (omega arith), f.2)
-
-pub returns-in-At-clause-searched : goal.returns-in-At-clause-searched
-returns-in-At-clause-searched g c =
-    let object = g.C.ClientWords.object in
+pub returns-in-Err-clause-crowded : goal.returns-in-Err-clause-crowded
+returns-in-Err-clause-crowded g c =
     let v = pass_view c.args.pass.now in
-    let looked = c.in-At.ensures.looked in
-    subst (Searched object v) (sym c.keep_place.ensures.same)
-    (searched-few object v (pass_view c.find_segment.new.pass) looked.0
-    (walks c.args.queue.now c.args.pass.now c.requires.belongs).few looked.1 looked.2)
+    let u = pass_view c.find_segment.new.pass in
+    let w = pass_view c.make_segment.new.pass in
+    let looked = c.in-Far.ensures.looked in
+    crowded-later v u _ looked c.args.index w
+    (is-crowded c.args.index u w c.in-Far.ensures.finds.0 c.in-Err.ensures.crowded)
 
-pub returns-in-Over-clause-searched : goal.returns-in-Over-clause-searched
-returns-in-Over-clause-searched g c =
-    let looked = c.in-Over.ensures.looked in
-    searched-few g.C.ClientWords.object (pass_view c.args.pass.now) (pass_view c.find_segment.new.pass) looked.0
-    (walks c.args.queue.now c.args.pass.now c.requires.belongs).few looked.1 looked.2
+pub keep-requires-clause-made : goal.keep-requires-clause-made
+keep-requires-clause-made g c =
+    let x = pass_view c.make_segment.new.pass in
+    let y = pass_view c.find_segment-segment.new.pass in
+    let more = longer x y c.find_segment-segment.ensures.looked.2.segments in
+    let made = c.in-Ok.ensures.made in
+    made-found (c.args.index / 32) c.find_segment-segment.result y (omega arith) c.find_segment-segment.ensures.finds
+
+pub returns-in-Ok-clause-searched : goal.returns-in-Ok-clause-searched
+returns-in-Ok-clause-searched g c =
+    let v = pass_view c.args.pass.now in
+    let u = pass_view c.find_segment.new.pass in
+    let x = pass_view c.make_segment.new.pass in
+    let y = pass_view c.find_segment-segment.new.pass in
+    subst (Searched g.C.ClientWords.object c.args.index v) (sym c.keep.ensures.same)
+    (far-searched v u _ c.in-Far.ensures.looked g.C.ClientWords.object c.args.index y c.in-Far.ensures.finds.0
+    (looked-again u x y _ c.make_segment.ensures.left c.find_segment-segment.ensures.looked))
+
+pub keep-requires-in_default : goal.keep-requires-in_default
+keep-requires-in_default g c =
+    let p = c.args.pass.now in
+    let low = below-cells (pass_view p) c.args.index p.inside c.requires.number in
+    let u = pass_view c.find_segment.new.pass in
+    let same = ap (λ z. z.cells) c.find_segment.ensures.looked.2.is in record {
+      belongs = c.find_segment.ensures.belongs;
+      small = omega arith;
+      made = found-made (c.args.index / 32) c.find_segment.result u c.in_default.not-Far c.find_segment.ensures.finds;
+      own = c.find_segment.ensures.own;
+    }
+
+pub returns-in_default : goal.returns-in_default
+returns-in_default g c =
+    let v = pass_view c.args.pass.now in
+    let looked = c.find_segment.ensures.looked in record {
+      belongs = c.keep-in_default.ensures.belongs;
+      finds = c.keep-in_default.ensures.finds;
+      searched = subst (Searched g.C.ClientWords.object c.args.index v) (sym c.keep-in_default.ensures.same)
+          (searched-few g.C.ClientWords.object c.args.index v (pass_view c.find_segment.new.pass) looked.0
+          (walks c.args.queue.now c.args.pass.now c.requires.belongs).few looked.1 looked.2);
+      crowded = tt;
+    }

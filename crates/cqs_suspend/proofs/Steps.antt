@@ -1,12 +1,13 @@
 -- A suspend is its steps: a number is drawn, its cell is looked for, and an exchange there is made, perhaps after some
 -- that missed.
-use Rattle.std.proofs.Common.{◌≡◌, ℕ, suc, ◌+◌, ◌≤◌, List, [], ◌∷◌, ◌++◌, length, Option, Some, None, sym, refl, ap, ◌∙◌, subst, inl, append_assoc, length-append, arith}
+use Rattle.std.proofs.Common.{◌≡◌, ℕ, suc, ◌+◌, ◌/◌, ◌≤◌, true, List, [], ◌∷◌, ◌++◌, length, Option, Some, None, sym, refl, ap, ◌∙◌, subst, ⊎_elim, inl, inr, append_assoc, length-append, arith}
 use Rattle.cqs_core.specs.QueueSteps.{QueueStep, row_of, CellRow, StepRow, at_counter, at_cell, payload_told, installs}
 use Rattle.cqs_words.specs.declared.cell.CellState.{CellState}
 use Rattle.cqs_rule_laws.specs.declared.view.Facts.{Facts}
 use Rattle.cqs_rule_laws.specs.declared.view.Glimpse.{Glimpse}
 use Rattle.cqs_rule_laws.specs.declared.view.Sighting.{Sighting}
 use Rattle.cqs_rule_laws.specs.declared.view.Sighting.TheVariants.{Cell}
+use Rattle.cqs_rule_laws.specs.declared.view.Spare.{Spare}
 use Rattle.cqs_rule_laws.specs.declared.view.View.{View}
 use Rattle.cqs_rule_laws.specs.Exchanges.{HasCell}
 use Rattle.cqs_rule_laws.specs.Facts.{facts_worked, facts_missed}
@@ -16,14 +17,20 @@ use Rattle.cqs_rule_laws.specs.Saw.{Saw, WasFound}
 use Rattle.cqs_rule_laws.proofs.Calls.{called-by, called-then, saw-then}
 use Rattle.cqs_rule_laws.proofs.Lists.{has_right}
 use Rattle.cqs_rule_laws.specs.Settling.{settles_row}
+use Rattle.cqs_rule_laws.specs.declared.client.ClientWords.{Ghosts}
+use Rattle.cqs_rule.specs.declared.queue.Pass.{Pass}
+use Rattle.cqs_rule.specs.declared.queue.Queue.{Queue}
+use Rattle.cqs_rule.specs.Claims.{CanExtend}
+use Rattle.cqs_rule.specs.Passes.{pass_view}
 use Rattle.cqs_rule.specs.Counting.{counted_after}
 use Rattle.cqs_cell.specs.Transitions.{facts_since, Made, MadeBy, Missed, MissedBy}
-use Rattle.cqs_find.specs.Finds.{longest_search, facts_searched, Searched}
+use Rattle.cqs_find.specs.Finds.{facts_searched, IsSearch, Searched}
+use Rattle.cqs_find.proofs.Numbers.{homes-grow}
 use Rattle.cqs_suspend.specs.Suspends.{facts_drawn, cell_found, told_by, draw_entries, end_entries, Ended, EndedBy}
 
--- a pass at these facts that found these words and heads besides, and another glimpse
-abbrev pub facts_on_way : List Sighting → List (ℕ × ℕ) → Option Glimpse → Facts → Facts
-facts_on_way found heads last f = record (facts_searched found heads f) { last = last }
+-- a pass at these facts that found these words and heads besides, and another glimpse, and has these slots spare
+abbrev pub facts_on_way : List Sighting → List (ℕ × ℕ) → List Spare → Option Glimpse → Facts → Facts
+facts_on_way found heads spares last f = record (facts_searched found heads spares f) { last = last }
 
 module _ {C E S : Type 0} (object : Object E) (primitive : C → Primitive E S) (drawing : QueueStep) where
   -- The pass has drawn the number k, and is on its way to the exchange that will be made: so many missed.
@@ -34,12 +41,13 @@ module _ {C E S : Type 0} (object : Object E) (primitive : C → Primitive E S) 
     pub heads : List (ℕ × ℕ)
     pub last : Option Glimpse
     pub few : length found ≤ tries
-    pub few_heads : length heads ≤ longest_search
-    pub saw : Saw object drawn (facts_on_way found heads last (facts_drawn object.gains k v.facts)) [] u
+    pub spares : List Spare
+    pub search : IsSearch k v heads spares
+    pub saw : Saw object drawn (facts_on_way found heads spares last (facts_drawn object.gains k v.facts)) [] u
 
   pub way-searched : (k : ℕ) (v t u : View E S)
       → Saw object v (facts_drawn object.gains k v.facts) (draw_entries object k v drawing) t
-      → Searched object t u → OnWay 0 k v u
+      → Searched object k t u → OnWay 0 k v u
   way-searched k v t u d s = record {
     drawn = t;
     drew = d;
@@ -47,8 +55,14 @@ module _ {C E S : Type 0} (object : Object E) (primitive : C → Primitive E S) 
     heads = s.heads;
     last = None;
     few = omega arith;
-    few_heads = s.few;
-    saw = subst (λ (f : Facts). Saw object t (facts_searched [] s.heads f) [] u) d.facts_are s.saw;
+    spares = s.spares;
+    search = record {
+      far = s.search.far;
+      is_far = λ is. let less = homes-grow v t d.same.segments in let few = s.search.is_far is in omega arith;
+      few = s.search.few;
+      kept = λ is. s.search.kept is ∙ ap (λ (f : Facts). f.spare_slots) d.facts_are;
+    };
+    saw = subst (λ (f : Facts). Saw object t (facts_searched [] s.heads s.spares f) [] u) d.facts_are s.saw;
   }
 
   -- an exchange missed
@@ -58,9 +72,11 @@ module _ {C E S : Type 0} (object : Object E) (primitive : C → Primitive E S) 
       let here : List Sighting = Cell m.glimpse.number m.word ∷ [] in
       let f : Facts = facts_drawn object.gains k v.facts in
       let last : Option Glimpse = Some m.glimpse in
-      let is : facts_missed m.word m.glimpse u.facts ≡ facts_on_way (way.found ++ here) way.heads last f =
+      let is : facts_missed m.word m.glimpse u.facts ≡ facts_on_way (way.found ++ here) way.heads way.spares last f =
       ap (facts_missed m.word m.glimpse) way.saw.facts_are
-      ∙ (λ i. record (facts_on_way way.found way.heads last f) { found = append_assoc f.found way.found here i }) in
+      ∙ (λ i. record (facts_on_way way.found way.heads way.spares last f) {
+        found = append_assoc f.found way.found here i;
+      }) in
       let few = way.few in
       let more : length (way.found ++ here) ≡ length way.found + 1 = length-append way.found here in
       record {
@@ -70,7 +86,8 @@ module _ {C E S : Type 0} (object : Object E) (primitive : C → Primitive E S) 
         heads = way.heads;
         last = last;
         few = omega (arith, more, few);
-        few_heads = way.few_heads;
+        spares = way.spares;
+        search = way.search;
         saw = subst (λ (z : Facts). Saw object way.drawn z [] w) is
             (saw-then object way.drawn u w _ _ [] way.saw m.saw);
       }
@@ -91,7 +108,7 @@ module _ {C E S : Type 0} (object : Object E) (primitive : C → Primitive E S) 
   ended s row tries more k payload v u w way m =
       let f : Facts = facts_drawn object.gains k v.facts in
       let t : View E S = way.drawn in
-      let way_is : u.facts ≡ facts_on_way way.found way.heads way.last f = way.saw.facts_are in
+      let way_is : u.facts ≡ facts_on_way way.found way.heads way.spares way.last f = way.saw.facts_are in
       let told : u.facts.has.payload ≡ v.facts.has.payload = ap (λ (f : Facts). f.has.payload) way_is in
       let number : u.number ≡ v.number = way.saw.same.number ∙ way.drew.same.number in
       let first : List E = draw_entries object k v drawing in
@@ -112,7 +129,8 @@ module _ {C E S : Type 0} (object : Object E) (primitive : C → Primitive E S) 
         found = way.found ++ m.found;
         heads = way.heads;
         few = omega (arith, both, few, few_more);
-        few_heads = way.few_heads;
+        spares = way.spares;
+        search = way.search;
         counted_heads = m.heads;
         few_counted = m.few_heads;
         facts_are = m.saw.facts_are ∙ ap (counted_after (settles_row row) m.heads)
@@ -120,7 +138,9 @@ module _ {C E S : Type 0} (object : Object E) (primitive : C → Primitive E S) 
             ∙ ((λ i. facts_worked object.gains row k m.word (told_by row payload v.facts)
             (facts_since ((way_is i).found ++ m.found) m.last (way_is i)))
             ∙ (λ i. facts_worked object.gains row k m.word (told_by row payload v.facts)
-            (record (facts_searched way.found way.heads f) { found = append_assoc f.found way.found m.found i }))));
+            (record (facts_searched way.found way.heads way.spares f) {
+              found = append_assoc f.found way.found m.found i;
+            }))));
       }
 
   pub ends-by : (s : QueueStep) (tries more k j payload : ℕ) (v u w : View E S) → OnWay tries k v u → j ≡ k
@@ -148,3 +168,9 @@ module _ {C E S : Type 0} (object : Object E) (primitive : C → Primitive E S) 
       → Has k w.facts.waits
   waits-here tries k payload v w e =
       subst (Has k) (sym (ap (λ (f : Facts). f.waits) e.facts_are)) (has_right k v.facts.waits (k ∷ []) (inl refl))
+
+-- what a pass can make it can make still, as it has the slots that it had
+pub still-extends : {C S E : Type 0} {g : Ghosts C S E} (q : Queue C S E) (p next : Pass C S E g) → CanExtend q p
+    → (pass_view next).facts.spare_slots ≡ (pass_view p).facts.spare_slots → CanExtend q next
+still-extends q p next can same = ⊎_elim (λ ample. inl ample)
+    (λ some. inr (let long = ap length same in omega arith)) can

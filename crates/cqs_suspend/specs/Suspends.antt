@@ -6,6 +6,7 @@ use Rattle.cqs_rule.specs.declared.queue.Pass.{Pass}
 use Rattle.cqs_rule_laws.specs.declared.view.Facts.{Facts}
 use Rattle.cqs_rule_laws.specs.declared.view.Glimpse.{Glimpse}
 use Rattle.cqs_rule_laws.specs.declared.view.Sighting.{Sighting}
+use Rattle.cqs_rule_laws.specs.declared.view.Spare.{Spare}
 use Rattle.cqs_rule_laws.specs.declared.view.View.{View}
 use Rattle.cqs_rule_laws.specs.Called.{Called}
 use Rattle.cqs_rule_laws.specs.Exchanges.{FoundCell, HasCell}
@@ -17,7 +18,7 @@ use Rattle.cqs_rule_laws.specs.Saw.{WasFound}
 use Rattle.cqs_rule_laws.specs.Settling.{settles_row}
 use Rattle.cqs_rule.specs.Counting.{counted_after}
 use Rattle.cqs_rule.specs.Waits.{place_of, HasWait}
-use Rattle.cqs_find.specs.Finds.{longest_search, facts_searched}
+use Rattle.cqs_find.specs.Finds.{IsSearch, facts_searched}
 use Rattle.cqs_suspend.specs.declared.suspending.Suspended.{Suspended}
 use Rattle.cqs_suspend.specs.declared.suspending.Suspended.TheVariants.{Waits, Took}
 
@@ -61,13 +62,14 @@ module _ {C E S : Type 0} (object : Object E) (primitive : C → Primitive E S) 
     pub found : List Sighting
     pub heads : List (ℕ × ℕ)
     pub few : length found ≤ tries
-    pub few_heads : length heads ≤ longest_search
+    pub spares : List Spare
+    pub search : IsSearch k v heads spares
     pub counted_heads : List (ℕ × ℕ)
     pub few_counted : length counted_heads ≤ 1
     pub facts_are : w.facts
         ≡ counted_after (settles_row row) counted_heads (facts_worked object.gains row k word
         (told_by row payload v.facts)
-        (facts_searched found heads (facts_drawn object.gains k v.facts)))
+        (facts_searched found heads spares (facts_drawn object.gains k v.facts)))
 
   abbrev pub EndedBy : QueueStep → QueueStep → StepRow → ℕ → ℕ → ℕ → View E S → View E S → Type 0
   EndedBy drawing s (at_counter row) tries k payload v w = ⊥

@@ -10,6 +10,7 @@
 #![tactic(auto)]
 
 mod entering;
+mod placing;
 mod suspending;
 
 pub use entering::enter;

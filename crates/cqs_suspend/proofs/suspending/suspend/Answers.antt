@@ -1,9 +1,9 @@
-use Rattle.std.proofs.Common.{ap, sym, ◌∙◌, subst, inl}
+use Rattle.std.proofs.Common.{ap, sym, ◌∙◌, subst}
 use Rattle.cqs_core.specs.QueueSteps.{draws, installs, takes}
 use Rattle.cqs_rule_laws.specs.Lists.{Has}
 use Rattle.cqs_rule.specs.Passes.{pass_view}
 use Rattle.cqs_rule.proofs.Places.{knows-saw}
-use Rattle.cqs_suspend.proofs.Steps.{way-searched, way-missed-by, ends-by, ends-at, waits-here}
+use Rattle.cqs_suspend.proofs.Steps.{still-extends, way-searched, way-missed-by, ends-by, ends-at, waits-here}
 use Rattle.cqs_suspend.proofs.suspending.suspend.Goals as goal
 
 pub wait_of-requires-clause-wait : goal.wait_of-requires-clause-wait
@@ -11,33 +11,33 @@ wait_of-requires-clause-wait g c =
     let C = g.C.ClientWords in
     let k = c.add_table-number.result in
     let way = way-searched C.object C.primitive draws k _ _ _ c.add_table-number.ensures.saw
-    c.locate.ensures.searched in
-    subst (λ z. Has z (pass_view c.install.new.pass).facts.waits) (sym c.in-At.ensures.locates.0)
+    c.place-at.ensures.searched in
+    subst (λ z. Has z (pass_view c.install.new.pass).facts.waits) (sym c.place-at.ensures.place.0)
     (waits-here C.object C.primitive draws 0 k 0 _ _
-    (ends-by C.object C.primitive draws installs 0 0 k _ 0 _ _ _ way c.in-At.ensures.locates.0 c.in-Ok.ensures.made))
+    (ends-by C.object C.primitive draws installs 0 0 k _ 0 _ _ _ way c.place-at.ensures.place.0 c.in-Ok.ensures.made))
 
 pub wait_of-requires-clause-place : goal.wait_of-requires-clause-place
 wait_of-requires-clause-place g c =
     let C = g.C.ClientWords in
-    knows-saw C.object (pass_view c.locate.new.pass)
-    (pass_view c.install.new.pass) _ _ _ c.in-Ok.ensures.made.saw c.in-At.ensures.locates.1
+    knows-saw C.object (pass_view c.place-at.new.pass)
+    (pass_view c.install.new.pass) _ _ _ c.in-Ok.ensures.made.saw c.place-at.ensures.place.1
 
 pub take_value-requires-clause-place : goal.take_value-requires-clause-place
 take_value-requires-clause-place g c =
     let C = g.C.ClientWords in
-    knows-saw C.object (pass_view c.locate.new.pass) (pass_view c.install.new.pass) _ _ _ c.in-Err.ensures.missed.saw
-    c.in-At.ensures.locates.1
+    knows-saw C.object (pass_view c.place-at.new.pass) (pass_view c.install.new.pass) _ _ _ c.in-Err.ensures.missed.saw
+    c.place-at.ensures.place.1
 
 pub returns-in-Ok-clause-suspends : goal.returns-in-Ok-clause-suspends
 returns-in-Ok-clause-suspends g c =
     let C = g.C.ClientWords in
     let k = c.add_table-number.result in
     let way = way-searched C.object C.primitive draws k _ _ _ c.add_table-number.ensures.saw
-    c.locate.ensures.searched in
-    let ends = ends-by C.object C.primitive draws installs 0 0 k _ 0 _ _ _ way c.in-At.ensures.locates.0
+    c.place-at.ensures.searched in
+    let ends = ends-by C.object C.primitive draws installs 0 0 k _ 0 _ _ _ way c.place-at.ensures.place.0
     c.in-Ok.ensures.made in (
       ends-at C.object C.primitive draws installs 0 k _ 0 _ _ _
-          (ap (λ p. p.index) c.wait_of.ensures.place ∙ c.in-At.ensures.locates.0)
+          (ap (λ p. p.index) c.wait_of.ensures.place ∙ c.place-at.ensures.place.0)
           (ap pass_view c.wait_of.ensures.same) ends,
       c.wait_of.ensures.has,
     )
@@ -47,15 +47,13 @@ returns-in-Ok-take_value-clause-suspends g c =
     let C = g.C.ClientWords in
     let k = c.add_table-number.result in
     let way = way-searched C.object C.primitive draws k _ _ _ c.add_table-number.ensures.saw
-    c.locate.ensures.searched in
+    c.place-at.ensures.searched in
     ends-by C.object C.primitive draws takes 1 1 k _ _ _ _ _
-    (way-missed-by C.object C.primitive draws installs 0 k _ _ _ _ _ way c.in-At.ensures.locates.0
+    (way-missed-by C.object C.primitive draws installs 0 k _ _ _ _ _ way c.place-at.ensures.place.0
     c.in-Err.ensures.missed)
-    c.in-At.ensures.locates.0 c.in-Ok-take_value.ensures.took
+    c.place-at.ensures.place.0 c.in-Ok-take_value.ensures.took
 
-pub unreachable-requires : goal.unreachable-requires
-unreachable-requires g c =
-    let out = c.in_default.ensures.locates in
-    let drawn = ap (λ f. f.doing) c.in_default.ensures.searched.saw.facts_are
-    ∙ ap (λ f. f.doing) c.add_table-number.ensures.saw.facts_are in
-    out.own c.add_table-number.result (inl drawn) out.out
+pub place-at-requires-clause-spare : goal.place-at-requires-clause-spare
+place-at-requires-clause-spare g c =
+    still-extends c.args.queue.now c.args.pass.now c.add_table-number.new.pass c.requires.spare
+    (ap (λ f. f.spare_slots) c.add_table-number.ensures.saw.facts_are)

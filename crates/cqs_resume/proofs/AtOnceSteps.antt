@@ -82,11 +82,11 @@ module _ {C E S : Type 0} (object : Object E) (primitive : C → Primitive E S) 
       (plain.each was.client was.hidden was.words found.before was.handed (was.opening_is ∙ same) was.shown g.number)
 
   -- a look at a cell that was found neither empty nor with its waiter finds a hole
-  pub looks-missed : (opening : Opening) (k : ℕ) (state : CellState) (cell : CellWord) (v u w : View E S)
-      → ShowsPlain primitive opening → w.opening ≡ opening → Tried object primitive k state v u
+  pub looks-missed : (opening : Opening) (k n : ℕ) (state : CellState) (cell : CellWord) (v u w : View E S)
+      → ShowsPlain primitive opening → w.opening ≡ opening → Tried object primitive k n state v u
       → (state ≡ shown.Empty → ⊥) → (state ≡ shown.Waiter → ⊥)
       → LooksAt object primitive misses k u cell w → (cell.state ≡ shown.Cancelled → ⊥) → ⊥
-  looks-missed opening k state cell v u w plain same t empty waiter l cancelled =
+  looks-missed opening k n state cell v u w plain same t empty waiter l cancelled =
       let g : Glimpse = l.looked.glimpse in
       let since : IsFoundSince g t.glimpse = subst (SinceLast g) t.last l.looked.since in
       let far : 2 ≤ rank t.glimpse.state =

@@ -18,6 +18,7 @@ use Rattle.cqs_rule_laws.specs.declared.view.Facts.{Facts}
 use Rattle.cqs_rule_laws.specs.declared.view.Glimpse.{Glimpse}
 use Rattle.cqs_rule_laws.specs.declared.view.Sighting.{Sighting}
 use Rattle.cqs_rule_laws.specs.declared.view.Sighting.TheVariants.{Cell}
+use Rattle.cqs_rule_laws.specs.declared.view.Spare.{Spare}
 use Rattle.cqs_rule_laws.specs.declared.view.View.{View}
 use Rattle.cqs_rule.specs.Callbacks.{EndedRefused}
 use Rattle.cqs_rule_laws.specs.Exchanges.{FoundCell, HasCell, SinceLast, IsFoundSince}
@@ -36,16 +37,16 @@ use Rattle.cqs_rule.proofs.Places.{knows-saw}
 use Rattle.cqs_rule.specs.Counting.{counted_after}
 use Rattle.cqs_cell.specs.Looks.{LooksAt, settles_event}
 use Rattle.cqs_cell.specs.Transitions.{facts_since, Made, MadeBy, Missed}
-use Rattle.cqs_find.specs.Finds.{longest_search, facts_searched, Searched}
+use Rattle.cqs_find.specs.Finds.{facts_searched, IsSearch, Searched}
 use Rattle.cqs_find.proofs.Searches.{saw-left}
 use Rattle.cqs_rule_laws.specs.Settling.{duties_then, settles_row}
 use Rattle.cqs_rule_laws.specs.Kinds.{change_by}
 use Rattle.cqs_resume.specs.Counting.{duties_by, settles_at}
 use Rattle.cqs_resume.specs.Meets.{facts_met, cell_of, Met}
 
--- a pass at these facts that found these words and heads besides, and another glimpse
-abbrev pub facts_on_way : List Sighting → List (ℕ × ℕ) → Option Glimpse → Facts → Facts
-facts_on_way found heads last f = record (facts_searched found heads f) { last = last }
+-- a pass at these facts that found these words and heads besides, and another glimpse, and has these slots spare
+abbrev pub facts_on_way : List Sighting → List (ℕ × ℕ) → List Spare → Option Glimpse → Facts → Facts
+facts_on_way found heads spares last f = record (facts_searched found heads spares f) { last = last }
 
 -- A step of this row at the cell of the number k finds it in this state, and leaves the pass at this, with these
 -- numbers passed over besides.
@@ -149,34 +150,37 @@ none-other state.Resumed may top cancelled refused = may
 none-other state.Delegated may top cancelled refused = may
 
 module _ {C E S : Type 0} (object : Object E) (primitive : C → Primitive E S) where
-  -- The pass is on its way to the step that will be made at a cell: it looked for the cell, and so many exchanges
-  -- missed.
-  pub record OnWay (tries : ℕ) (v u : View E S) : Type 0 where
+  -- The pass is on its way to the step that will be made at the cell of the number n: it looked for the cell, and so
+  -- many exchanges missed.
+  pub record OnWay (tries n : ℕ) (v u : View E S) : Type 0 where
     pub found : List Sighting
     pub heads : List (ℕ × ℕ)
     pub last : Option Glimpse
     pub few : length found ≤ tries
-    pub few_heads : length heads ≤ longest_search
-    pub saw : Saw object v (facts_on_way found heads last v.facts) [] u
+    pub spares : List Spare
+    pub search : IsSearch n v heads spares
+    pub saw : Saw object v (facts_on_way found heads spares last v.facts) [] u
 
-  pub way-searched : (v u : View E S) → Searched object v u → OnWay 0 v u
-  way-searched v u s = record {
+  pub way-searched : (n : ℕ) (v u : View E S) → Searched object n v u → OnWay 0 n v u
+  way-searched n v u s = record {
     found = [];
     heads = s.heads;
     last = v.facts.last;
     few = omega arith;
-    few_heads = s.few;
+    spares = s.spares;
+    search = s.search;
     saw = s.saw;
   }
 
-  way-missed : (row : CellRow) (tries k : ℕ) (state : CellState) (v u w : View E S) → OnWay tries v u
-      → Missed object primitive row k u state w → OnWay (suc tries) v w
-  way-missed row tries k state v u w way m =
+  way-missed : (row : CellRow) (tries n k : ℕ) (state : CellState) (v u w : View E S) → OnWay tries n v u
+      → Missed object primitive row k u state w → OnWay (suc tries) n v w
+  way-missed row tries n k state v u w way m =
       let here : List Sighting = Cell m.glimpse.number m.word ∷ [] in
       let f : Facts = v.facts in
-      let is : facts_missed m.word m.glimpse u.facts ≡ facts_on_way (way.found ++ here) way.heads (Some m.glimpse) f =
+      let is : facts_missed m.word m.glimpse u.facts ≡ facts_on_way (way.found ++ here) way.heads way.spares
+      (Some m.glimpse) f =
       ap (facts_missed m.word m.glimpse) way.saw.facts_are
-      ∙ (λ i. record (facts_on_way way.found way.heads (Some m.glimpse) f) {
+      ∙ (λ i. record (facts_on_way way.found way.heads way.spares (Some m.glimpse) f) {
         found =
             append_assoc f.found way.found here i;
       }) in
@@ -187,28 +191,30 @@ module _ {C E S : Type 0} (object : Object E) (primitive : C → Primitive E S) 
         heads = way.heads;
         last = Some m.glimpse;
         few = omega (arith, more, few);
-        few_heads = way.few_heads;
+        spares = way.spares;
+        search = way.search;
         saw = subst (λ (z : Facts). Saw object v z [] w) is (saw-then object v u w _ _ [] way.saw m.saw);
       }
 
-  way-more : (tries more : ℕ) (v u : View E S) → tries ≤ more → OnWay tries v u → OnWay more v u
-  way-more tries more v u low way = record {
+  way-more : (tries more n : ℕ) (v u : View E S) → tries ≤ more → OnWay tries n v u → OnWay more n v u
+  way-more tries more n v u low way = record {
     found = way.found;
     heads = way.heads;
     last = way.last;
     few = let few = way.few in omega arith;
-    few_heads = way.few_heads;
+    spares = way.spares;
+    search = way.search;
     saw = way.saw;
   }
 
-  -- The last of the exchanges found the cell of the number k in this state.
-  pub record Tried (k : ℕ) (state : CellState) (v u : View E S) : Type 0 where
+  -- The last of the exchanges found the cell of the number k in this state; n is that number, as it was looked for.
+  pub record Tried (k n : ℕ) (state : CellState) (v u : View E S) : Type 0 where
     pub glimpse : Glimpse
     pub last : u.facts.last ≡ Some glimpse
     pub number : glimpse.number ≡ k
     pub state_is : shown_state glimpse.state ≡ state
     pub may : IsUnended glimpse.state
-    pub way : OnWay (min (rank glimpse.state + 1) 4) v u
+    pub way : OnWay (min (rank glimpse.state + 1) 4) n v u
 
   -- an exchange that missed leaves the pass at what it was at
   pub record Stays (u w : View E S) : Type 0 where
@@ -224,31 +230,31 @@ module _ {C E S : Type 0} (object : Object E) (primitive : C → Primitive E S) 
     place = λ at knows. knows-saw object u w _ _ at m.saw knows;
   }
 
-  pub stays-searched : (v u : View E S) → Searched object v u → Stays v u
-  stays-searched v u s = record {
+  pub stays-searched : (n : ℕ) (v u : View E S) → Searched object n v u → Stays v u
+  stays-searched n v u s = record {
     doing = ap (λ (f : Facts). f.doing) s.saw.facts_are;
     payload = ap (λ (f : Facts). f.has.payload) s.saw.facts_are;
     place = λ at knows. knows-saw object v u _ _ at s.saw knows;
   }
 
   -- the first exchange missed
-  pub tried-first : (row : CellRow) (k : ℕ) (state : CellState) (v u w : View E S) → row.works_at ≡ stage.ticket
-      → Searched object v u → Missed object primitive row k u state w → Tried k state v w
-  tried-first row k state v u w at s m = record {
+  pub tried-first : (row : CellRow) (k n : ℕ) (state : CellState) (v u w : View E S) → row.works_at ≡ stage.ticket
+      → Searched object n v u → Missed object primitive row k u state w → Tried k n state v w
+  tried-first row k n state v u w at s m = record {
     glimpse = m.glimpse;
     last = ap (λ (f : Facts). f.last) m.saw.facts_are;
     number = m.number;
     state_is = m.state_is;
     may = subst (λ z. MayFind z m.glimpse.state) at m.may;
-    way = way-more 1 (min (rank m.glimpse.state + 1) 4) v w (omega arith)
-        (way-missed row 0 k state v u w (way-searched v u s) m);
+    way = way-more 1 (min (rank m.glimpse.state + 1) 4) n v w (omega arith)
+        (way-missed row 0 n k state v u w (way-searched n v u s) m);
   }
 
   -- What an exchange finds that wants the state which was found last, and misses: the cell has gone on.
-  gone-on : (row : CellRow) (k : ℕ) (state next : CellState) (v u w : View E S) → (t : Tried k state v u)
+  gone-on : (row : CellRow) (k n : ℕ) (state next : CellState) (v u w : View E S) → (t : Tried k n state v u)
       → (m : Missed object primitive row k u next w) → t.glimpse.state ≡ row.finds → IsBare row.finds
       → rank t.glimpse.state < rank m.glimpse.state
-  gone-on row k state next v u w t m finds bare =
+  gone-on row k n state next v u w t m finds bare =
       let since : IsFoundSince m.glimpse t.glimpse = subst (SinceLast m.glimpse) t.last m.since in
       ⊎_elim
       (λ (same : (m.glimpse.state ≡ t.glimpse.state) × (m.glimpse.payload ≡ t.glimpse.payload)). absurd
@@ -257,27 +263,27 @@ module _ {C E S : Type 0} (object : Object E) (primitive : C → Primitive E S) 
       (since.since (m.number ∙ sym t.number))
 
   -- a further exchange missed, that wanted what was found last
-  pub tried-next : (row : CellRow) (k : ℕ) (state next : CellState) (v u w : View E S) → row.works_at ≡ stage.ticket
-      → IsBare row.finds → rank row.finds ≤ 2 → (t : Tried k state v u) → t.glimpse.state ≡ row.finds
-      → Missed object primitive row k u next w → Tried k next v w
-  tried-next row k state next v u w at bare low t finds m =
-      let more = gone-on row k state next v u w t m finds bare in
+  pub tried-next : (row : CellRow) (k n : ℕ) (state next : CellState) (v u w : View E S) → row.works_at ≡ stage.ticket
+      → IsBare row.finds → rank row.finds ≤ 2 → (t : Tried k n state v u) → t.glimpse.state ≡ row.finds
+      → Missed object primitive row k u next w → Tried k n next v w
+  tried-next row k n state next v u w at bare low t finds m =
+      let more = gone-on row k n state next v u w t m finds bare in
       let is : rank t.glimpse.state ≡ rank row.finds = ap rank finds in record {
         glimpse = m.glimpse;
         last = ap (λ (f : Facts). f.last) m.saw.facts_are;
         number = m.number;
         state_is = m.state_is;
         may = subst (λ z. MayFind z m.glimpse.state) at m.may;
-        way = way-more (suc (min (rank t.glimpse.state + 1) 4)) (min (rank m.glimpse.state + 1) 4) v w (omega arith)
-            (way-missed row (min (rank t.glimpse.state + 1) 4) k next v u w t.way m);
+        way = way-more (suc (min (rank t.glimpse.state + 1) 4)) (min (rank m.glimpse.state + 1) 4) n v w (omega arith)
+            (way-missed row (min (rank t.glimpse.state + 1) 4) n k next v u w t.way m);
       }
 
-  pub fewer-turns : (row : CellRow) (k : ℕ) (state next : CellState) (v u w : View E S) → IsBare row.finds
+  pub fewer-turns : (row : CellRow) (k n : ℕ) (state next : CellState) (v u w : View E S) → IsBare row.finds
       → rank row.finds ≤ 2
-      → (t : Tried k state v u) → t.glimpse.state ≡ row.finds → Missed object primitive row k u next w
+      → (t : Tried k n state v u) → t.glimpse.state ≡ row.finds → Missed object primitive row k u next w
       → turns_left w.facts.last < turns_left u.facts.last
-  fewer-turns row k state next v u w bare low t finds m =
-      let more = gone-on row k state next v u w t m finds bare in
+  fewer-turns row k n state next v u w bare low t finds m =
+      let more = gone-on row k n state next v u w t m finds bare in
       let is : rank t.glimpse.state ≡ rank row.finds = ap rank finds in
       let before : turns_left u.facts.last ≡ 4 - rank t.glimpse.state = ap turns_left t.last in
       let after : turns_left w.facts.last ≡ 4 - rank m.glimpse.state =
@@ -389,11 +395,11 @@ module _ {C E S : Type 0} (object : Object E) (primitive : C → Primitive E S) 
       (shown-injective l.looked.glimpse.state state.Refused (l.shows.state ∙ is)) refl
 
   -- a look at a cell that was found settled finds it settled
-  pub looks-settled : (k : ℕ) (state : CellState) (cell : CellWord) (v u w : View E S) → Tried k state v u
+  pub looks-settled : (k n : ℕ) (state : CellState) (cell : CellWord) (v u w : View E S) → Tried k n state v u
       → (state ≡ shown.Empty → ⊥) → (state ≡ shown.Waiter → ⊥) → (state ≡ shown.Cancelling → ⊥)
       → LooksAt object primitive meets k u cell w
       → (cell.state ≡ shown.Cancelled → ⊥) → (cell.state ≡ shown.Refused → ⊥) → ⊥
-  looks-settled k state cell v u w t empty waiter cancelling l cancelled refused =
+  looks-settled k n state cell v u w t empty waiter cancelling l cancelled refused =
       let g : Glimpse = l.looked.glimpse in
       let since : IsFoundSince g t.glimpse = subst (SinceLast g) t.last l.looked.since in
       let top : rank t.glimpse.state ≡ 4 =
@@ -410,12 +416,12 @@ module _ {C E S : Type 0} (object : Object E) (primitive : C → Primitive E S) 
   -- the step was made, and the number is met
   met-of : (s : QueueStep) (row : CellRow) (state : CoreState) (at : Doing) (over : List ℕ) (tries k payload : ℕ)
       (v u w : View E S) → row_of s ≡ at_cell row
-      → IsEnd object.gains row state at over k → tries ≤ 4 → v.facts.has.payload ≡ payload → OnWay tries v u
+      → IsEnd object.gains row state at over k → tries ≤ 4 → v.facts.has.payload ≡ payload → OnWay tries k v u
       → Worked s row k u w
       → Met object primitive s state at over payload k v w
   met-of s row state at over tries k payload v u w is ends low owed way d =
       let f : Facts = v.facts in
-      let u_is : u.facts ≡ facts_on_way way.found way.heads way.last f = way.saw.facts_are in
+      let u_is : u.facts ≡ facts_on_way way.found way.heads way.spares way.last f = way.saw.facts_are in
       let here : List Sighting = Cell k d.word ∷ [] in
       let told : payload_told row.gain d.left u.facts.has.payload ≡ payload =
       (λ i. payload_told (ends.told i) d.left (u_is i).has.payload) ∙ owed in
@@ -424,7 +430,7 @@ module _ {C E S : Type 0} (object : Object E) (primitive : C → Primitive E S) 
       λ i. object.entries s (way.saw.same.number i) k (told i) in
       let facts : counted_after (settles_row row) d.counted
       (facts_worked object.gains row k d.word (payload_told row.gain d.left u.facts.has.payload) u.facts)
-      ≡ counted_after (settles_at s) d.counted (facts_met s k at over (way.found ++ here) way.heads f) =
+      ≡ counted_after (settles_at s) d.counted (facts_met s k at over (way.found ++ here) way.heads way.spares f) =
       ap (counted_after (settles_row row) d.counted)
       (ends.facts d.word (payload_told row.gain d.left u.facts.has.payload) u.facts
       ∙ ((λ i. record (u_is i) {
@@ -434,18 +440,19 @@ module _ {C E S : Type 0} (object : Object E) (primitive : C → Primitive E S) 
         duties = duties_then (settles_row row) k (u_is i).duties;
         found = (u_is i).found ++ here;
       })
-      ∙ (λ i. record (facts_met s k at over (way.found ++ here) way.heads f) {
+      ∙ (λ i. record (facts_met s k at over (way.found ++ here) way.heads way.spares f) {
         duties = duties_by (sym is i) k f.duties;
         found = append_assoc f.found way.found here i;
       })))
       ∙ ap (λ (z : StepRow). counted_after (change_by z).settles d.counted
-      (facts_met s k at over (way.found ++ here) way.heads f)) (sym is) in
+      (facts_met s k at over (way.found ++ here) way.heads way.spares f)) (sym is) in
       let few = way.few in
       record {
         tried = way.found;
         heads = way.heads;
         few = omega arith;
-        few_heads = way.few_heads;
+        spares = way.spares;
+        search = way.search;
         word = d.word;
         left = d.left;
         cell = subst (λ z. FoundCell d.word (cell_of k z d.left)) ends.finds d.cell;
@@ -460,7 +467,7 @@ module _ {C E S : Type 0} (object : Object E) (primitive : C → Primitive E S) 
   pub met-by : (s : QueueStep) (state : CoreState) (at : Doing) (over : ℕ
       → List ℕ) (tries j k payload : ℕ) (v u w : View E S) → j ≡ k
       → IsEndBy object.gains (row_of s) state at (over j) j → tries ≤ 4 → v.facts.has.payload ≡ payload
-      → OnWay tries v u
+      → OnWay tries k v u
       → WorkedBy s j u w → Met object primitive s state at (over k) payload k v w
   met-by s state at over tries j k payload v u w same ends low owed way d =
       subst (λ z. Met object primitive s state at (over z) payload z v w) same (by (row_of s) refl ends d)
@@ -468,7 +475,8 @@ module _ {C E S : Type 0} (object : Object E) (primitive : C → Primitive E S) 
       by : (row : StepRow) → row_of s ≡ row → IsEndBy object.gains row state at (over j) j → WorkedAs s row j u w
           → Met object primitive s state at (over j) payload j v w
       by (at_counter row) is ends d = absurd d
-      by (at_cell row) is ends d = met-of s row state at (over j) tries j payload v u w is ends low owed way d
+      by (at_cell row) is ends d = met-of s row state at (over j) tries j payload v u w is ends low owed
+          (subst (λ z. OnWay tries z v u) (sym same) way) d
 
   -- the client is told of the resumption that ended where its waiter was refused
   pub ended-refused : (payload k : ℕ) (v w : View E S) → v.facts.has.payload ≡ payload
@@ -486,19 +494,20 @@ module _ {C E S : Type 0} (object : Object E) (primitive : C → Primitive E S) 
       }
 
   -- a load that finds no head leaves the pass on its way
-  pub way-stayed : (tries : ℕ) (v u w : View E S) → OnWay tries v u
-      → LeftBy [] u.facts.spare_slots u.facts.duties u w → OnWay tries v w
-  way-stayed tries v u w way left =
-      let s = saw-left object u w [] left in
+  pub way-stayed : (tries n : ℕ) (v u w : View E S) → OnWay tries n v u
+      → LeftBy [] u.facts.spare_slots u.facts.duties u w → OnWay tries n v w
+  way-stayed tries n v u w way left =
+      let s = saw-left object u w [] u.facts.spare_slots left in
       let f : Facts = v.facts in record {
         found = way.found;
         heads = way.heads;
         last = way.last;
         few = way.few;
-        few_heads = way.few_heads;
+        spares = way.spares;
+        search = way.search;
         saw = subst (λ (z : Facts). Saw object v z [] w)
-            (ap (facts_searched [] []) way.saw.facts_are
-            ∙ (λ i. record (facts_on_way way.found way.heads way.last f) {
+            (ap (λ (z : Facts). facts_searched [] [] z.spare_slots z) way.saw.facts_are
+            ∙ (λ i. record (facts_on_way way.found way.heads way.spares way.last f) {
               heads = append-nil (f.heads ++ way.heads) i;
               found = append-nil (f.found ++ way.found) i;
             }))

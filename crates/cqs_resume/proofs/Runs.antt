@@ -45,6 +45,7 @@ facts_round s k at over r f = record f {
   reached = if r.drawn then r.number else f.reached;
   passed = f.passed ++ over;
   duties = duties_after s k f.duties;
+  spare_slots = r.spares;
   heads = f.heads ++ r.heads;
   found = f.found ++ round_seen r;
 }
@@ -67,6 +68,13 @@ facts-then s k at ns rest r j f is =
       heads = append_assoc f.heads r.heads (all_heads rest) i;
       found = append_assoc f.found (round_seen r) (all_seen rest) i;
     }
+
+-- the resumption ended
+abbrev pub HasEnded : Resumed → Type 0
+HasEnded (Served k) = Unit {0}
+HasEnded (Left k) = Unit {0}
+HasEnded (Refused k) = Unit {0}
+HasEnded (Under under) = ⊥
 
 -- a number that was drawn comes after those that the pass drew before
 abbrev pub IsNext : Bool → ℕ → Facts → Type 0
@@ -113,20 +121,22 @@ module _ {C E S : Type 0} (object : Object E) (primitive : C → Primitive E S) 
           drawn = true;
           tried = m.tried;
           heads = m.heads;
+          far = m.search.far;
+          spares = m.spares;
           word = m.word;
           payload = m.left;
         };
         number = refl;
         is_drawn = refl;
-        found = record { cell = m.cell; few = m.few; few_heads = m.few_heads };
+        found = record { cell = m.cell; few = m.few; few_heads = m.search.few };
         was = subst (λ (z : List E). WasFound primitive (HasCell (cell_of k state m.left)) z w) last m.was;
         called = subst (λ (z : ℕ × List E). Called object v (object.entries reaches v.number k z.0 ++ z.1) z.1 w)
             (λ i. (owed i, last i)) called;
         counted = m.counted;
         few_counted = m.few_counted;
         facts_are = m.saw.facts_are ∙ ap (counted_after (settles_at s) m.counted)
-            ((λ i. facts_met s k at over seen m.heads (x_is i))
-            ∙ (λ i. record (facts_met s k at over seen m.heads drawn) {
+            ((λ i. facts_met s k at over seen m.heads m.spares (x_is i))
+            ∙ (λ i. record (facts_met s k at over seen m.heads m.spares drawn) {
               found =
                   append_assoc f.found (Word resumes_place k ∷ []) seen i;
             }));
@@ -141,12 +151,14 @@ module _ {C E S : Type 0} (object : Object E) (primitive : C → Primitive E S) 
       drawn = false;
       tried = m.tried;
       heads = m.heads;
+      far = m.search.far;
+      spares = m.spares;
       word = m.word;
       payload = m.left;
     };
     number = refl;
     is_drawn = refl;
-    found = record { cell = m.cell; few = m.few; few_heads = m.few_heads };
+    found = record { cell = m.cell; few = m.few; few_heads = m.search.few };
     was = m.was;
     called = called-by object v w _ _ m.saw;
     counted = m.counted;
@@ -155,7 +167,7 @@ module _ {C E S : Type 0} (object : Object E) (primitive : C → Primitive E S) 
   }
 
   -- the last number that a pass drew never falls
-  never-falls : (drawn : Bool) (s : QueueStep) (state : CoreState) (at : Doing) (over : List ℕ) (payload k : ℕ)
+  pub never-falls : (drawn : Bool) (s : QueueStep) (state : CoreState) (at : Doing) (over : List ℕ) (payload k : ℕ)
       (v w : View E S)
       → Went drawn s state at over payload k v w → IsNext drawn k v.facts → v.facts.reached ≤ w.facts.reached
   never-falls true s state at over payload k v w t next =
@@ -201,7 +213,7 @@ module _ {C E S : Type 0} (object : Object E) (primitive : C → Primitive E S) 
     was = subst (λ z. WasShown primitive z fact f.before) (sym opening) f.was;
   }
 
-  over-so : (drawn : Bool) (at : Doing) (over : List ℕ) (payload k : ℕ) (more : List E) (v u w : View E S)
+  pub over-so : (drawn : Bool) (at : Doing) (over : List ℕ) (payload k : ℕ) (more : List E) (v u w : View E S)
       → (t : Went drawn passes_over state.Cancelled at over payload k v u) → w.seen ≡ u.seen ++ more
       → w.opening ≡ u.opening
       → IsOver primitive w t.round
@@ -365,15 +377,15 @@ module _ {C E S : Type 0} (object : Object E) (primitive : C → Primitive E S) 
 
   -- a resume that ended at its first number
   pub resumes-now : (drawn : Bool) (most payload k : ℕ) (result : Resumed) (v x w : View E S) → 0 < most
-      → IsNext drawn k v.facts
+      → IsNext drawn k v.facts → HasEnded result
       → ((s : QueueStep) (state : CoreState) → Met object primitive s state doing.Idle [] payload k x w
       → Went drawn s state doing.Idle [] payload k v w)
       → Meets object primitive payload k x (Some result) w
       → Resumes object primitive most (opened_by drawn k) payload v result w
-  resumes-now drawn most payload k (Served n) v x w some next went m =
+  resumes-now drawn most payload k (Served n) v x w some next end went m =
       subst (λ z. Ended object primitive serves state.Waiter most (opened_by drawn k) payload z v w) (sym m.0)
       (ended-now drawn serves state.Waiter most payload k v w some next (went serves state.Waiter m.1))
-  resumes-now drawn most payload k (Left n) v x w some next went m = ⊎_elim
+  resumes-now drawn most payload k (Left n) v x w some next end went m = ⊎_elim
       (λ (left : Met object primitive leaves state.Empty doing.Idle [] payload k x w). inl
       (subst (λ z. Ended object primitive leaves state.Empty most (opened_by drawn k) payload z v w) (sym m.0)
       (ended-now drawn leaves state.Empty most payload k v w some next (went leaves state.Empty left))))
@@ -382,10 +394,10 @@ module _ {C E S : Type 0} (object : Object E) (primitive : C → Primitive E S) 
       (ended-now drawn delegates state.Cancelling most payload k v w some next
       (went delegates state.Cancelling given))))
       m.1
-  resumes-now drawn most payload k (Refused n) v x w some next went m =
+  resumes-now drawn most payload k (Refused n) v x w some next end went m =
       subst (λ z. Ended object primitive ends_refused state.Refused most (opened_by drawn k) payload z v w) (sym m.0)
       (ended-now drawn ends_refused state.Refused most payload k v w some next (went ends_refused state.Refused m.1))
-  resumes-now drawn most payload k (Under under) v x w some next went m = absurd m
+  resumes-now drawn most payload k (Under under) v x w some next end went m = absurd end
 
   -- and one that passed over its first number
   pub resumes-then : (drawn : Bool) (most payload j : ℕ) (result : Resumed) (v u w : View E S)

@@ -10,22 +10,27 @@ use Rattle.cqs_rule.specs.declared.queue.Pass.{Pass}
 use Rattle.cqs_rule_laws.specs.declared.view.Facts.{Facts}
 use Rattle.cqs_rule_laws.specs.declared.view.Glimpse.{Glimpse}
 use Rattle.cqs_rule_laws.specs.declared.view.Sighting.{Sighting}
+use Rattle.cqs_rule_laws.specs.declared.view.Spare.{Spare}
 use Rattle.cqs_rule_laws.specs.declared.view.Sighting.TheVariants.{Cell}
 use Rattle.cqs_rule_laws.specs.declared.view.View.{View}
 use Rattle.cqs_rule_laws.specs.Exchanges.{FoundCell, HasCell}
 use Rattle.cqs_rule_laws.specs.Object.{Object, Primitive}
+use Rattle.cqs_rule.specs.declared.queue.tokens.Under as token
+use Rattle.cqs_rule.specs.Owed.{HasUnder, under_payload, under_reached, under_ticket}
 use Rattle.cqs_rule.specs.Passes.{pass_view}
 use Rattle.cqs_rule_laws.specs.Saw.{Saw, WasFound}
-use Rattle.cqs_find.specs.Finds.{longest_search}
+use Rattle.cqs_find.specs.Finds.{IsCrowded, IsSearch, Searched}
 use Rattle.cqs_rule.specs.Counting.{counted_after}
 use Rattle.cqs_resume.specs.Counting.{duties_after, settles_at}
 use Rattle.cqs_resume.specs.declared.resumed.Resumed.{Resumed}
 use Rattle.cqs_resume.specs.declared.resumed.Resumed.TheVariants.{Served, Left, Refused, Under}
 
--- the pass is at this after the step s at the number k, has passed over these numbers besides, and
--- found these words and heads
-abbrev pub facts_met : QueueStep → ℕ → Doing → List ℕ → List Sighting → List (ℕ × ℕ) → Facts → Facts
-facts_met s k at over found heads f = record f {
+-- the pass is at this after the step s at the number k, has passed over these numbers besides,
+-- found these words and heads, and has these slots spare
+abbrev pub facts_met : QueueStep → ℕ → Doing → List ℕ → List Sighting → List (ℕ × ℕ) → List Spare
+    → Facts → Facts
+facts_met s k at over found heads spares f = record f {
+  spare_slots = spares;
   doing = at;
   last = None;
   passed = f.passed ++ over;
@@ -47,19 +52,32 @@ module _ {C E S : Type 0} (object : Object E) (primitive : C → Primitive E S) 
     pub tried : List Sighting
     pub heads : List (ℕ × ℕ)
     pub few : length tried ≤ 4
-    pub few_heads : length heads ≤ longest_search
+    pub spares : List Spare
+    pub search : IsSearch k v heads spares
     pub word : ℕ
     pub left : ℕ
     pub cell : FoundCell word (cell_of k state left)
     pub counted : List (ℕ × ℕ)
     pub few_counted : length counted ≤ 1
     pub saw : Saw object v (counted_after (settles_at s) counted
-        (facts_met s k at over (tried ++ Cell k word ∷ []) heads v.facts))
+        (facts_met s k at over (tried ++ Cell k word ∷ []) heads spares v.facts))
         (object.entries s v.number k payload) w
     pub was : WasFound primitive (HasCell (cell_of k state left))
         (object.entries s v.number k payload) w
 
-  -- the number was passed over; or the resume ended there, by the state that the cell was found in
+  -- The number's segment isn't made, and there was no slot for it. The pass keeps the ticket, and
+  -- owes the resumption.
+  pub record HeldBack (payload k : ℕ) (v : View E S) (under : token.Under) (w : View E S) : Type 0
+    where
+      pub crowded : IsCrowded k v w
+      pub searched : Searched object k v w
+      pub payload_is : under_payload under ≡ payload
+      pub ticket_is : under_ticket under ≡ Some k
+      pub reached_is : under_reached under ≡ v.facts.reached
+      pub has : HasUnder w.facts under
+
+  -- the number was passed over; or the resume ended there, by the state that the cell was found in;
+  -- or it was handed back
   abbrev pub Meets : ℕ → ℕ → View E S → Option Resumed → View E S → Type 0
   Meets payload k v None w = Met passes_over state.Cancelled doing.Owes (k ∷ []) payload k v w
   Meets payload k v (Some (Served n)) w =
@@ -69,7 +87,7 @@ module _ {C E S : Type 0} (object : Object E) (primitive : C → Primitive E S) 
       ⊎ Met delegates state.Cancelling doing.Idle [] payload k v w)
   Meets payload k v (Some (Refused n)) w =
       (n ≡ k) × Met ends_refused state.Refused doing.Idle [] payload k v w
-  Meets payload k v (Some (Under under)) w = ⊥
+  Meets payload k v (Some (Under under)) w = HeldBack payload k v under w
 
 module _ {C S E : Type 0} {g : Ghosts C S E} where
   abbrev pub HasMet : ℕ → ℕ → Pass C S E g → Option Resumed → Pass C S E g → Type 0

@@ -1,5 +1,5 @@
 -- What a resume answers: exactly the state in which its last cell was found.
-use Rattle.std.specs.Prelude.{◌≡◌, ◌⊎◌, ℕ, ◌<◌, ◌≤◌, List, [], ◌∷◌, ◌++◌, length, Option, None}
+use Rattle.std.specs.Prelude.{◌≡◌, ◌⊎◌, ℕ, ◌<◌, ◌≤◌, Bool, List, [], ◌∷◌, ◌++◌, length, Option, Some, None}
 use Rattle.cqs_core.specs.declared.cells.CoreState.{CoreState}
 use Rattle.cqs_core.specs.declared.cells.CoreState.TheVariants as state
 use Rattle.cqs_core.specs.declared.doings.Doing.TheVariants as doing
@@ -8,6 +8,7 @@ use Rattle.cqs_rule_laws.specs.declared.client.ClientWords.{Ghosts}
 use Rattle.cqs_rule.specs.declared.queue.Pass.{Pass}
 use Rattle.cqs_rule.specs.declared.queue.tokens.Under as token
 use Rattle.cqs_rule_laws.specs.declared.view.View.{View}
+use Rattle.cqs_rule_laws.specs.Ample.{IsAmple}
 use Rattle.cqs_rule_laws.specs.Called.{Called}
 use Rattle.cqs_rule_laws.specs.Exchanges.{HasCell}
 use Rattle.cqs_rule_laws.specs.Facts.{IsBehind}
@@ -19,9 +20,10 @@ use Rattle.cqs_rule.specs.Passes.{pass_view}
 use Rattle.cqs_rule_laws.specs.Saw.{WasShown, WasFound}
 use Rattle.cqs_resume.specs.declared.resumed.Resumed.{Resumed}
 use Rattle.cqs_resume.specs.declared.resumed.Resumed.TheVariants.{Served, Left, Refused, Under}
+use Rattle.cqs_find.specs.Finds.{FoundTaken}
 use Rattle.cqs_rule.specs.Counting.{counted_after}
 use Rattle.cqs_resume.specs.Counting.{settles_at}
-use Rattle.cqs_resume.specs.Rounds.{Round, cell_in, IsFoundIn, IsOpenedWith, numbers, drawn_in, facts_after_rounds, round_entries, over_entries}
+use Rattle.cqs_resume.specs.Rounds.{Round, cell_in, IsFoundIn, IsOpenedWith, numbers, drawn_in, facts_after_rounds, round_entries, draw_entries, over_entries}
 
 -- how many numbers one call passes over before it hands the resumption back
 abbrev pub most_passed_over : ℕ
@@ -94,6 +96,34 @@ module _ {C E S : Type 0} (object : Object E) (primitive : C → Primitive E S) 
     pub behind : IsBehind (under_reached under) v.facts
     pub further : 1 < most → v.facts.reached < under_reached under
 
+  -- It came to a number whose segment isn't made, and there was no slot for it: the pass has none
+  -- spare, and after its other steps each slot was seen not free. Before, it passed over these
+  -- numbers, of which it drew fewer than `most`; it drew this one too, or its ticket was open. The
+  -- pass keeps the ticket, and has what it had. The table isn't ample.
+  pub record Held (most payload : ℕ) (v : View E S) (result : Resumed) (w : View E S) : Type 0 where
+    pub under : token.Under
+    pub is : result ≡ Under under
+    pub over : List Round
+    pub few : drawn_in over < most
+    pub are_over : AreOver primitive w over
+    pub number : ℕ
+    pub drawn : Bool
+    pub called : Called object v (over_entries object v.number payload over
+        ++ draw_entries object v.number payload drawn number) [] w
+    pub spareless : w.facts.spare_slots ≡ []
+    pub before : List (ℕ × ℕ)
+    pub heads : List (ℕ × ℕ)
+    pub heads_are : w.facts.heads ≡ v.facts.heads ++ (before ++ heads)
+    pub taken : (x : ℕ) → x < v.slots → FoundTaken x heads
+    pub scarce : IsAmple v → ⊥
+    pub payload_is : under_payload under ≡ payload
+    pub ticket_is : under_ticket under ≡ Some number
+    pub has : HasUnder w.facts under
+    pub keeps : w.facts.has ≡ v.facts.has
+    pub waits_are : w.facts.waits ≡ v.facts.waits
+    pub reached : v.facts.reached ≤ under_reached under
+
+  -- In an ample table a resume ends, or is handed back once it has passed over as many numbers.
   abbrev pub Resumes : ℕ → Option ℕ → ℕ → View E S → Resumed → View E S → Type 0
   Resumes most ticket payload v (Served k) w = Ended serves state.Waiter most ticket payload k v w
   Resumes most ticket payload v (Left k) w =
@@ -103,12 +133,21 @@ module _ {C E S : Type 0} (object : Object E) (primitive : C → Primitive E S) 
       Ended ends_refused state.Refused most ticket payload k v w
   Resumes most ticket payload v (Under under) w = Stopped most ticket payload under v w
 
+  -- In any table it may be handed back for want of a slot too.
+  abbrev pub GoesOn : ℕ → Option ℕ → ℕ → View E S → Resumed → View E S → Type 0
+  GoesOn most ticket payload v result w =
+      Resumes most ticket payload v result w ⊎ Held most payload v result w
+
 module _ {C S E : Type 0} {g : Ghosts C S E} where
   -- a resumption of this payload went on, by at most so many numbers that it passed over, from an
   -- open ticket or none
   abbrev pub HasResumed : ℕ → Option ℕ → ℕ → Pass C S E g → Resumed → Pass C S E g → Type 0
   HasResumed most ticket payload p result p' =
       Resumes g.object g.primitive most ticket payload (pass_view p) result (pass_view p')
+
+  abbrev pub HasGoneOn : ℕ → Option ℕ → ℕ → Pass C S E g → Resumed → Pass C S E g → Type 0
+  HasGoneOn most ticket payload p result p' =
+      GoesOn g.object g.primitive most ticket payload (pass_view p) result (pass_view p')
 
 -- where the resumption was handed back, the last number that was drawn for it is greater than this
 abbrev pub IsFurther : ℕ → Resumed → Type 0

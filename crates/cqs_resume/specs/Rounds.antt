@@ -6,6 +6,7 @@ use Rattle.cqs_core.specs.QueueSteps.{QueueStep, reaches, passes_over}
 use Rattle.cqs_rule_laws.specs.declared.view.Facts.{Facts}
 use Rattle.cqs_rule_laws.specs.declared.view.Glimpse.{Glimpse}
 use Rattle.cqs_rule_laws.specs.declared.view.Sighting.{Sighting}
+use Rattle.cqs_rule_laws.specs.declared.view.Spare.{Spare}
 use Rattle.cqs_rule_laws.specs.declared.view.Sighting.TheVariants.{Cell, Word}
 use Rattle.cqs_rule_laws.specs.Exchanges.{FoundCell}
 use Rattle.cqs_rule_laws.specs.Layout.{resumes_place}
@@ -19,9 +20,11 @@ pub record Round : Type 0 where
   -- whether the call drew it: it didn't draw the one whose ticket was open already
   pub drawn : Bool
   -- what it found on the way: by exchanges on its cell that weren't made, and the heads where its
-  -- segment was looked for
+  -- segment was looked for, or a slot for it as the pass knew of none; and what was spare then
   pub tried : List Sighting
   pub heads : List (ℕ × ℕ)
+  pub far : Bool
+  pub spares : List Spare
   -- the cell's word and payload, as the step that was made found them
   pub word : ℕ
   pub payload : ℕ
@@ -35,7 +38,7 @@ cell_in state r = record { number = r.number; state = state; payload = r.payload
 pub record IsFoundIn (state : CoreState) (r : Round) : Type 0 where
   pub cell : FoundCell r.word (cell_in state r)
   pub few : length r.tried ≤ 4
-  pub few_heads : length r.heads ≤ longest_search
+  pub few_heads : r.far ≡ false → length r.heads ≤ longest_search
 
 -- what the rounds found, in order
 abbrev pub draw_seen : Bool → ℕ → List Sighting
@@ -52,6 +55,10 @@ all_seen (r ∷ rs) = round_seen r ++ all_seen rs
 abbrev pub all_heads : List Round → List (ℕ × ℕ)
 all_heads [] = []
 all_heads (r ∷ rs) = r.heads ++ all_heads rs
+
+abbrev pub spares_after : List Round → List Spare → List Spare
+spares_after [] spares = spares
+spares_after (r ∷ rs) spares = spares_after rs r.spares
 
 abbrev pub numbers : List Round → List ℕ
 numbers [] = []
@@ -85,6 +92,7 @@ IsOpenedWith (Some k) (r ∷ rs) = (r.number ≡ k) × (r.drawn ≡ false) × Ar
 -- has passed over these numbers, and has all else as it had it.
 abbrev pub facts_after_rounds : QueueStep → ℕ → Doing → List ℕ → List Round → Facts → Facts
 facts_after_rounds s k at over rounds f = record f {
+  spare_slots = spares_after rounds f.spare_slots;
   doing = at;
   last = None;
   reached = reached_in rounds f.reached;

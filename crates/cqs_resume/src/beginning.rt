@@ -1,10 +1,10 @@
 //! A resumption whose first number an idle pass has drawn.
 
-ghost use Rattle.std.specs.Prelude.{◌≡◌, Some};
+ghost use Rattle.std.specs.Prelude.{◌≡◌, true, Some};
 ghost use Rattle.cqs_core.specs.declared.doings.Doing.TheVariants as doing;
 ghost use Rattle.cqs_rule_laws.specs.Manner.{IsSmart};
-ghost use Rattle.cqs_rule.specs.Passes.{pass_view, client_of, IsOf};
-ghost use Rattle.cqs_resume.specs.Resumes.{HasResumed, most_after_first};
+ghost use Rattle.cqs_rule.specs.Passes.{ample_of, pass_view, client_of, IsOf};
+ghost use Rattle.cqs_resume.specs.Resumes.{HasGoneOn, HasResumed, most_after_first};
 
 use crate::meeting::meet;
 use crate::resumed::Resumed;
@@ -23,11 +23,14 @@ pub fn resume_from<C: Client>(
     requires belongs { IsOf queue.now pass.old }
     requires smart { IsSmart (C.primitive (client_of queue.now)).manner.leaving }
     requires ticket { (pass_view pass.old).facts.doing ≡ doing.Ticket number }
+    requires reached { (pass_view pass.old).facts.reached ≡ number }
     requires payload { (pass_view pass.old).facts.has.payload ≡ payload }
     ensures belongs { IsOf queue.now pass.new }
-    ensures resumed { HasResumed most_after_first (Some number) payload pass.old result pass.new }
+    ensures resumed { HasGoneOn most_after_first (Some number) payload pass.old result pass.new }
+    ensures ample { ample_of queue.now ≡ true
+        → HasResumed most_after_first (Some number) payload pass.old result pass.new }
 {
-    match meet(queue, pass, number, payload) {
+    match meet(queue, pass, number, number, payload) {
         Some(resumed) => resumed,
         None => go_on(queue, pass, payload, MOST_PASSED_OVER - 1),
     }

@@ -1,10 +1,10 @@
 //! The next of several resumptions that a pass owes: it is begun by drawing its number.
 
-ghost use Rattle.std.specs.Prelude.{◌≡◌, ◌<◌};
+ghost use Rattle.std.specs.Prelude.{◌≡◌, ◌<◌, true};
 ghost use Rattle.cqs_core.specs.declared.doings.Doing.TheVariants as doing;
 ghost use Rattle.cqs_rule_laws.specs.Manner.{IsSmart, OwesFurther};
-ghost use Rattle.cqs_rule.specs.Passes.{pass_view, client_of, IsOf};
-ghost use Rattle.cqs_resume.specs.Begins.{HasBegun};
+ghost use Rattle.cqs_rule.specs.Passes.{ample_of, pass_view, client_of, IsOf};
+ghost use Rattle.cqs_resume.specs.Begins.{HasBegun, HasBegunSo};
 
 use crate::meeting::meet;
 use crate::resumed::Resumed;
@@ -21,10 +21,11 @@ pub fn begin<C: Client>(queue: &Queue<C>, pass: &mut Pass<C>, payload: u32) -> R
     requires further { 0 < (pass_view pass.old).facts.has.further }
     requires payload { (pass_view pass.old).facts.has.payload ≡ payload }
     ensures belongs { IsOf queue.now pass.new }
-    ensures begun { HasBegun payload pass.old result pass.new }
+    ensures begun { HasBegunSo payload pass.old result pass.new }
+    ensures ample { ample_of queue.now ≡ true → HasBegun payload pass.old result pass.new }
 {
     let number = queue.add_table::<Begins>(pass, RESUMES_WORD, 1);
-    match meet(queue, pass, number, payload) {
+    match meet(queue, pass, number, number, payload) {
         Some(resumed) => resumed,
         None => go_on(queue, pass, payload, MOST_PASSED_OVER - 1),
     }

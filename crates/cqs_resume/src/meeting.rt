@@ -16,25 +16,35 @@ use cqs_words::CellState;
 /// answers none. A waiter is tried first. Whatever is found instead is what is tried next: a cell
 /// only goes on, from Empty to Waiter, from there to Cancelling, and then it is settled. Where its
 /// waiter was refused to leave, the client is told that the resumption ended there. Where the
-/// segment was taken out, the number is passed over.
+/// segment was taken out, the number is passed over. Where it isn't made, and there is no slot for
+/// it, the resumption is handed back, with its ticket and the last number that was drawn for it.
 #[inline(always)]
 pub(crate) fn meet<C: Client>(
     queue: &Queue<C>,
     pass: &mut Pass<C>,
     number: u64,
+    reached: u64,
     payload: u32,
 ) -> Option<Resumed>
     requires belongs { IsOf queue.now pass.old }
     requires smart { IsSmart (C.primitive (client_of queue.now)).manner.leaving }
     requires ticket { (pass_view pass.old).facts.doing ≡ doing.Ticket number }
+    requires reached { (pass_view pass.old).facts.reached ≡ reached }
     requires payload { (pass_view pass.old).facts.has.payload ≡ payload }
     ensures belongs { IsOf queue.now pass.new }
     ensures met { HasMet payload number pass.old result pass.new }
 {
-    let Found::At(at) = locate(queue, pass, number) else {
-        let after = place_after(queue, pass, number);
-        queue.pass_over(pass, after);
-        return None;
+    let at = match locate(queue, pass, number) {
+        Ok(Found::At(at)) => at,
+        Ok(Found::Over(_)) => {
+            let after = place_after(queue, pass, number);
+            queue.pass_over(pass, after);
+            return None;
+        }
+        Err(_) => {
+            let ticket = Some(number);
+            return Some(Resumed::Under(queue.under_of(pass, payload, ticket, reached)));
+        }
     };
     let mut state = match serve(queue, pass, at, payload) {
         Ok(()) => return Some(Resumed::Served(number)),

@@ -12,6 +12,7 @@ pub enum Resumed {
     Left(u64),
     /// The waiter of this number was refused to leave, and the value ended at its cell.
     Refused(u64),
-    /// As many numbers were passed over as one call may; the resumption is still owed.
+    /// As many numbers were passed over as one call may, or there is no slot for the segment of the
+    /// next; the resumption is still owed.
     Under(Under),
 }

@@ -1,11 +1,11 @@
 //! The resume, and the end of one that was handed back.
 
-ghost use Rattle.std.specs.Prelude.{◌≡◌, ◌<◌, None};
+ghost use Rattle.std.specs.Prelude.{◌≡◌, ◌<◌, true, None};
 ghost use Rattle.cqs_core.specs.declared.doings.Doing.TheVariants as doing;
 ghost use Rattle.cqs_rule_laws.specs.Manner.{IsSmart};
 ghost use Rattle.cqs_rule.specs.Owed.{HasUnder, under_payload, under_ticket, under_reached};
-ghost use Rattle.cqs_rule.specs.Passes.{pass_view, client_of, IsOf};
-ghost use Rattle.cqs_resume.specs.Resumes.{HasResumed, IsFurther, most_passed_over};
+ghost use Rattle.cqs_rule.specs.Passes.{ample_of, pass_view, client_of, IsOf};
+ghost use Rattle.cqs_resume.specs.Resumes.{HasGoneOn, HasResumed, IsFurther, most_passed_over};
 
 use crate::meeting::meet;
 use crate::resumed::Resumed;
@@ -17,7 +17,9 @@ pub(crate) const MOST_PASSED_OVER: u32 = 64;
 
 /// Draws a number for a pass that owes a resumption, and serves the waiter there, or leaves the
 /// payload for the suspend to come or for the canceller. Cells whose waiters have left are passed
-/// over. It is compiled into its caller, which says what stands apart.
+/// over. It is handed back where it has passed over 64 numbers, or has the ticket of one whose
+/// segment isn't made and no slot for that. It is compiled into its caller, which says what stands
+/// apart.
 #[inline(always)]
 pub fn resume<C: Client>(queue: &Queue<C>, pass: &mut Pass<C>, payload: u32) -> Resumed
     requires belongs { IsOf queue.now pass.old }
@@ -25,10 +27,12 @@ pub fn resume<C: Client>(queue: &Queue<C>, pass: &mut Pass<C>, payload: u32) -> 
     requires owes { (pass_view pass.old).facts.doing ≡ doing.Owes }
     requires payload { (pass_view pass.old).facts.has.payload ≡ payload }
     ensures belongs { IsOf queue.now pass.new }
-    ensures resumed { HasResumed most_passed_over None payload pass.old result pass.new }
+    ensures resumed { HasGoneOn most_passed_over None payload pass.old result pass.new }
+    ensures ample { ample_of queue.now ≡ true
+        → HasResumed most_passed_over None payload pass.old result pass.new }
 {
     let number = queue.add_table::<Reaches>(pass, RESUMES_WORD, 1);
-    match meet(queue, pass, number, payload) {
+    match meet(queue, pass, number, number, payload) {
         Some(resumed) => resumed,
         None => go_on(queue, pass, payload, MOST_PASSED_OVER - 1),
     }
@@ -43,9 +47,11 @@ pub fn finish<C: Client>(queue: &Queue<C>, pass: &mut Pass<C>, under: Under) -> 
     requires smart { IsSmart (C.primitive (client_of queue.now)).manner.leaving }
     requires owes { HasUnder (pass_view pass.old).facts under }
     ensures belongs { IsOf queue.now pass.new }
-    ensures resumed { HasResumed most_passed_over (under_ticket under)
+    ensures resumed { HasGoneOn most_passed_over (under_ticket under)
         (under_payload under) pass.old result pass.new }
-    ensures further { IsFurther (under_reached under) result }
+    ensures ample { ample_of queue.now ≡ true → HasResumed most_passed_over (under_ticket under)
+        (under_payload under) pass.old result pass.new }
+    ensures further { ample_of queue.now ≡ true → IsFurther (under_reached under) result }
 {
     replace_with(
         pass,
@@ -65,9 +71,11 @@ fn finish_apart<C: Client>(queue: &Queue<C>, pass: Pass<C>, under: Under) -> (Pa
     requires smart { IsSmart (C.primitive (client_of queue.now)).manner.leaving }
     requires owes { HasUnder (pass_view pass).facts under }
     ensures belongs { IsOf queue.now result.0 }
-    ensures resumed { HasResumed most_passed_over (under_ticket under)
+    ensures resumed { HasGoneOn most_passed_over (under_ticket under)
         (under_payload under) pass result.1 result.0 }
-    ensures further { IsFurther (under_reached under) result.1 }
+    ensures ample { ample_of queue.now ≡ true → HasResumed most_passed_over (under_ticket under)
+        (under_payload under) pass result.1 result.0 }
+    ensures further { ample_of queue.now ≡ true → IsFurther (under_reached under) result.1 }
 {
     let mut pass = pass;
     let resumed = end(queue, &mut pass, under);
@@ -80,15 +88,18 @@ fn end<C: Client>(queue: &Queue<C>, pass: &mut Pass<C>, under: Under) -> Resumed
     requires smart { IsSmart (C.primitive (client_of queue.now)).manner.leaving }
     requires owes { HasUnder (pass_view pass.old).facts under }
     ensures belongs { IsOf queue.now pass.new }
-    ensures resumed { HasResumed most_passed_over (under_ticket under)
+    ensures resumed { HasGoneOn most_passed_over (under_ticket under)
         (under_payload under) pass.old result pass.new }
-    ensures further { IsFurther (under_reached under) result }
+    ensures ample { ample_of queue.now ≡ true → HasResumed most_passed_over (under_ticket under)
+        (under_payload under) pass.old result pass.new }
+    ensures further { ample_of queue.now ≡ true → IsFurther (under_reached under) result }
 {
+    let reached = under.reached();
     let (payload, ticket) = queue.spend_under(pass, under);
     let Some(number) = ticket else {
         return go_on(queue, pass, payload, MOST_PASSED_OVER);
     };
-    match meet(queue, pass, number, payload) {
+    match meet(queue, pass, number, reached, payload) {
         Some(resumed) => resumed,
         None => go_on(queue, pass, payload, MOST_PASSED_OVER),
     }
@@ -110,12 +121,12 @@ pub(crate) fn go_on<C: Client>(
     requires payload { (pass_view pass.old).facts.has.payload ≡ payload }
     requires some { 0 < most }
     ensures belongs { IsOf queue.now pass.new }
-    ensures resumed { HasResumed most None payload pass.old result pass.new }
+    ensures resumed { HasGoneOn most None payload pass.old result pass.new }
 {
     let mut left = most;
     loop {
         let number = queue.add_table::<Reaches>(pass, RESUMES_WORD, 1);
-        if let Some(resumed) = meet(queue, pass, number, payload) {
+        if let Some(resumed) = meet(queue, pass, number, number, payload) {
             return resumed;
         }
         left -= 1;

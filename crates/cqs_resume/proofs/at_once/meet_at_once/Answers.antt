@@ -1,4 +1,4 @@
-use Rattle.std.proofs.Common.{[], refl, sym, ap, ◌∙◌, inr, arith}
+use Rattle.std.proofs.Common.{[], refl, sym, ap, ◌∙◌, inl, inr, arith}
 use Rattle.cqs_core.specs.declared.cells.CoreState.TheVariants as state
 use Rattle.cqs_core.specs.declared.doings.Doing.TheVariants as doing
 use Rattle.cqs_core.specs.QueueSteps.{serves, leaves, ends_missed}
@@ -9,26 +9,28 @@ use Rattle.cqs_resume.proofs.at_once.meet_at_once.Goals as goal
 
 pub returns-in-Ok-clause-met : goal.returns-in-Ok-clause-met
 returns-in-Ok-clause-met g c =
-    let C = g.C.ClientWords in (
+    let C = g.C.ClientWords in inl (
       refl,
-      met-by C.object C.primitive serves state.Waiter doing.Idle (λ _. []) 0 _ _ _ _ _ _ c.in-At.ensures.locates.0
+      met-by C.object C.primitive serves state.Waiter doing.Idle (λ _. []) 0 _ _ _ _ _ _
+          (rw c.in-Ok-At.field-0-is at c.in-Ok-At.ensures.locates).0
           (end-serves C.object.gains _) (omega arith) c.requires.payload
-          (way-searched C.object C.primitive _ _ c.locate.ensures.searched)
+          (way-searched C.object C.primitive _ _ _ c.locate.ensures.searched)
           (worked-by C.object C.primitive serves _ 0 _ _ c.in-Ok.ensures.made),
     )
 
 pub loop-state-init : goal.loop-state-init
 loop-state-init g c =
     let C = g.C.ClientWords in
-    let first = stays-searched C.object C.primitive _ _ c.locate.ensures.searched in
-    let m = c.in-Err.ensures.missed in
+    let first = stays-searched C.object C.primitive _ _ _ c.locate.ensures.searched in
+    let m = c.in-Err-serve.ensures.missed in
     let then = stays-missed C.object C.primitive _ _ _ _ _ m in record {
-      belongs = c.in-Err.ensures.belongs;
-      number = c.in-At.ensures.locates.0;
-      ticket = then.doing ∙ (first.doing ∙ (c.requires.ticket ∙ ap doing.Ticket (sym c.in-At.ensures.locates.0)));
+      belongs = c.in-Err-serve.ensures.belongs;
+      number = (rw c.in-Ok-At.field-0-is at c.in-Ok-At.ensures.locates).0;
+      ticket = then.doing ∙ (first.doing ∙ (c.requires.ticket
+          ∙ ap doing.Ticket (sym (rw c.in-Ok-At.field-0-is at c.in-Ok-At.ensures.locates).0)));
       owes = then.payload ∙ (first.payload ∙ c.requires.payload);
-      place = then.place c.in-At.at c.in-At.ensures.locates.1;
-      tried = tried-first C.object C.primitive _ _ _ _ _ _ refl c.locate.ensures.searched m;
+      place = then.place c.in-Ok-At.at (rw c.in-Ok-At.field-0-is at c.in-Ok-At.ensures.locates).1;
+      tried = tried-first C.object C.primitive _ _ _ _ _ _ _ refl c.locate.ensures.searched m;
     }
 
 pub loop-state-preserved-in-Err-leave_value : goal.loop-state-preserved-in-Err-leave_value
@@ -42,29 +44,29 @@ loop-state-preserved-in-Err-leave_value g c =
       number = l.number;
       ticket = then.doing ∙ l.ticket;
       owes = then.payload ∙ l.owes;
-      place = then.place c.in-At.at l.place;
-      tried = tried-next C.object C.primitive _ _ _ _ _ _ _ refl tt (omega arith) l.tried is m;
+      place = then.place c.in-Ok-At.at l.place;
+      tried = tried-next C.object C.primitive _ _ _ _ _ _ _ _ refl tt (omega arith) l.tried is m;
     }
 
 pub loop-state-preserved : goal.loop-state-preserved
 loop-state-preserved g c =
     let C = g.C.ClientWords in
     let l = c.loop-state.invariant in
-    let m = c.in-Err-serve.ensures.missed in
+    let m = c.in-Err-serve-2.ensures.missed in
     let is = shown-injective l.tried.glimpse.state state.Waiter (l.tried.state_is ∙ c.in-Waiter.is) in
     let then = stays-missed C.object C.primitive _ _ _ _ _ m in record {
-      belongs = c.in-Err-serve.ensures.belongs;
+      belongs = c.in-Err-serve-2.ensures.belongs;
       number = l.number;
       ticket = then.doing ∙ l.ticket;
       owes = then.payload ∙ l.owes;
-      place = then.place c.in-At.at l.place;
-      tried = tried-next C.object C.primitive _ _ _ _ _ _ _ refl tt (omega arith) l.tried is m;
+      place = then.place c.in-Ok-At.at l.place;
+      tried = tried-next C.object C.primitive _ _ _ _ _ _ _ _ refl tt (omega arith) l.tried is m;
     }
 
 pub returns-in-Ok-leave_value-clause-met : goal.returns-in-Ok-leave_value-clause-met
 returns-in-Ok-leave_value-clause-met g c =
     let C = g.C.ClientWords in
-    let l = c.loop-state.invariant in (
+    let l = c.loop-state.invariant in inl (
       refl,
       met-by C.object C.primitive leaves state.Empty doing.Idle (λ _. []) _ _ _ _ _ _ _ l.number
           (end-leaves C.object.gains _) (omega arith) c.requires.payload l.tried.way
@@ -74,7 +76,7 @@ returns-in-Ok-leave_value-clause-met g c =
 pub returns-in-Ok-serve-clause-met : goal.returns-in-Ok-serve-clause-met
 returns-in-Ok-serve-clause-met g c =
     let C = g.C.ClientWords in
-    let l = c.loop-state.invariant in (
+    let l = c.loop-state.invariant in inl (
       refl,
       met-by C.object C.primitive serves state.Waiter doing.Idle (λ _. []) _ _ _ _ _ _ _ l.number
           (end-serves C.object.gains _) (omega arith) c.requires.payload l.tried.way
@@ -84,7 +86,7 @@ returns-in-Ok-serve-clause-met g c =
 pub returns-in-Cancelled-clause-met : goal.returns-in-Cancelled-clause-met
 returns-in-Cancelled-clause-met g c =
     let C = g.C.ClientWords in
-    let l = c.loop-state.invariant in (
+    let l = c.loop-state.invariant in inl (
       refl,
       met-by C.object C.primitive ends_missed state.Cancelled doing.Idle (λ _. []) _ _ _ _ _ _ _ l.number
           (end-missed C.object.gains _) (omega arith) c.requires.payload l.tried.way
@@ -95,8 +97,8 @@ pub unreachable-requires : goal.unreachable-requires
 unreachable-requires g c =
     let C = g.C.ClientWords in
     let x = c.args.queue.now.table.shared.key.client in
-    let out = c.in_default.ensures.locates in
-    let first = stays-searched C.object C.primitive _ _ c.in_default.ensures.searched in
-    let mode = ap (λ o. o.mode) c.in_default.ensures.belongs.opening
+    let out = rw c.in-Ok-Over.field-0-is at c.in-Ok-Over.ensures.locates in
+    let first = stays-searched C.object C.primitive _ _ _ c.locate.ensures.searched in
+    let mode = ap (λ o. o.mode) c.locate.ensures.belongs.opening
     ∙ ((g.met.C.ClientWords.keeps x).mode ∙ simple-mode _ c.requires.at_once) in
     out.own c.args.number (inr (inr (inr (inr (first.doing ∙ c.requires.ticket, mode))))) out.out

@@ -12,7 +12,7 @@ invariant-loop-state g l = record {
   ticket : (pass_view l.pass).facts.doing ≡ doing.Ticket l.at.index;
   owes : (pass_view l.pass).facts.has.payload ≡ l.payload;
   place : KnowsPlace (pass_view l.pass) l.at;
-  tried : Tried g.C.ClientWords.object g.C.ClientWords.primitive l.at.index l.state (pass_view l.fn.pass)
+  tried : Tried g.C.ClientWords.object g.C.ClientWords.primitive l.at.index l.number l.state (pass_view l.fn.pass)
       (pass_view l.pass);
 }
 

@@ -1,25 +1,40 @@
-use Rattle.std.proofs.Common.{◌∷◌, [], false, arith}
+use Rattle.std.proofs.Common.{◌∷◌, [], Some, false, arith}
 use Rattle.cqs_core.specs.declared.cells.CoreState.TheVariants as state
 use Rattle.cqs_core.specs.declared.doings.Doing.TheVariants as doing
 use Rattle.cqs_core.specs.QueueSteps.{passes_over}
 use Rattle.cqs_rule.specs.Passes.{pass_view}
-use Rattle.cqs_resume.proofs.Runs.{went-open, resumes-now, resumes-then}
+use Rattle.cqs_rule.proofs.Segments.{ample-view}
+use Rattle.cqs_resume.proofs.Holds.{goes-amply, goes-open, goes-then}
+use Rattle.cqs_resume.proofs.Runs.{went-open}
 use Rattle.cqs_resume.proofs.further.begin.Goals as goal
 
 pub returns-in-Some-clause-begun : goal.returns-in-Some-clause-begun
 returns-in-Some-clause-begun g c =
     let C = g.C.ClientWords in
-    let k = c.add_table-number.result in
     let x = pass_view c.add_table-number.new.pass in
-    let w = pass_view c.meet.new.pass in
     record {
-      number = k;
+      number = c.add_table-number.result;
       from = x;
       drew = c.add_table-number.ensures.saw;
       after = c.add_table-number.ensures.after;
-      resumes = resumes-now C.object C.primitive false 63 c.args.payload k c.in-Some.resumed x x w (omega arith) tt
-          (λ s found m. went-open C.object C.primitive s found doing.Idle [] c.args.payload k x w m)
-          c.in-Some.ensures.met;
+      goes = goes-open C.object C.primitive 63 c.args.payload c.add_table-number.result c.in-Some.resumed x
+          (pass_view c.meet.new.pass) (omega arith) c.in-Some.ensures.met;
+    }
+
+pub returns-in-Some-clause-ample : goal.returns-in-Some-clause-ample
+returns-in-Some-clause-ample g c = λ ample.
+    let C = g.C.ClientWords in
+    let x = pass_view c.add_table-number.new.pass in
+    record {
+      number = c.add_table-number.result;
+      from = x;
+      drew = c.add_table-number.ensures.saw;
+      after = c.add_table-number.ensures.after;
+      resumes = goes-amply C.object C.primitive 63 c.args.payload (Some c.add_table-number.result) c.in-Some.resumed x
+          (pass_view c.meet.new.pass)
+          (ample-view c.args.queue.now c.add_table-number.new.pass c.add_table-number.ensures.belongs ample)
+          (goes-open C.object C.primitive 63 c.args.payload c.add_table-number.result c.in-Some.resumed x
+          (pass_view c.meet.new.pass) (omega arith) c.in-Some.ensures.met);
     }
 
 pub returns-in-None-clause-begun : goal.returns-in-None-clause-begun
@@ -36,6 +51,27 @@ returns-in-None-clause-begun g c =
       from = x;
       drew = c.add_table-number.ensures.saw;
       after = c.add_table-number.ensures.after;
-      resumes = resumes-then C.object C.primitive false 63 c.args.payload k c.go_on.result x u w t tt
+      goes = goes-then C.object C.primitive false 63 c.args.payload k c.go_on.result x u w t tt
           c.go_on.ensures.resumed;
+    }
+
+pub returns-in-None-clause-ample : goal.returns-in-None-clause-ample
+returns-in-None-clause-ample g c = λ ample.
+    let C = g.C.ClientWords in
+    let k = c.add_table-number.result in
+    let x = pass_view c.add_table-number.new.pass in
+    let u = pass_view c.meet.new.pass in
+    let w = pass_view c.go_on.new.pass in
+    let t = went-open C.object C.primitive passes_over state.Cancelled doing.Owes
+    (k ∷ []) c.args.payload k x u c.in-None.ensures.met in
+    record {
+      number = c.add_table-number.result;
+      from = x;
+      drew = c.add_table-number.ensures.saw;
+      after = c.add_table-number.ensures.after;
+      resumes = goes-amply C.object C.primitive 63 c.args.payload (Some c.add_table-number.result) c.go_on.result x
+          (pass_view c.go_on.new.pass)
+          (ample-view c.args.queue.now c.add_table-number.new.pass c.add_table-number.ensures.belongs ample)
+          (goes-then C.object C.primitive false 63 c.args.payload k c.go_on.result x u w t tt
+          c.go_on.ensures.resumed);
     }

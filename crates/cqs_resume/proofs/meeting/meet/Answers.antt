@@ -12,24 +12,26 @@ pub returns-in-Ok-clause-met : goal.returns-in-Ok-clause-met
 returns-in-Ok-clause-met g c =
     let C = g.C.ClientWords in (
       refl,
-      met-by C.object C.primitive serves state.Waiter doing.Idle (λ _. []) 0 _ _ _ _ _ _ c.in-At.ensures.locates.0
+      met-by C.object C.primitive serves state.Waiter doing.Idle (λ _. []) 0 _ _ _ _ _ _
+          (rw c.in-Ok-At.field-0-is at c.in-Ok-At.ensures.locates).0
           (end-serves C.object.gains _) (omega arith) c.requires.payload
-          (way-searched C.object C.primitive _ _ c.locate.ensures.searched)
+          (way-searched C.object C.primitive _ _ _ c.locate.ensures.searched)
           (worked-by C.object C.primitive serves _ 0 _ _ c.in-Ok.ensures.made),
     )
 
 pub loop-state-init : goal.loop-state-init
 loop-state-init g c =
     let C = g.C.ClientWords in
-    let first = stays-searched C.object C.primitive _ _ c.locate.ensures.searched in
-    let m = c.in-Err.ensures.missed in
+    let first = stays-searched C.object C.primitive _ _ _ c.locate.ensures.searched in
+    let m = c.in-Err-serve.ensures.missed in
     let then = stays-missed C.object C.primitive _ _ _ _ _ m in record {
-      belongs = c.in-Err.ensures.belongs;
-      number = c.in-At.ensures.locates.0;
-      ticket = then.doing ∙ (first.doing ∙ (c.requires.ticket ∙ ap doing.Ticket (sym c.in-At.ensures.locates.0)));
+      belongs = c.in-Err-serve.ensures.belongs;
+      number = (rw c.in-Ok-At.field-0-is at c.in-Ok-At.ensures.locates).0;
+      ticket = then.doing ∙ (first.doing ∙ (c.requires.ticket
+          ∙ ap doing.Ticket (sym (rw c.in-Ok-At.field-0-is at c.in-Ok-At.ensures.locates).0)));
       owes = then.payload ∙ (first.payload ∙ c.requires.payload);
-      place = then.place c.in-At.at c.in-At.ensures.locates.1;
-      tried = tried-first C.object C.primitive _ _ _ _ _ _ refl c.locate.ensures.searched m;
+      place = then.place c.in-Ok-At.at (rw c.in-Ok-At.field-0-is at c.in-Ok-At.ensures.locates).1;
+      tried = tried-first C.object C.primitive _ _ _ _ _ _ _ refl c.locate.ensures.searched m;
     }
 
 pub loop-state-preserved-in-Err-leave_value : goal.loop-state-preserved-in-Err-leave_value
@@ -43,23 +45,23 @@ loop-state-preserved-in-Err-leave_value g c =
       number = l.number;
       ticket = then.doing ∙ l.ticket;
       owes = then.payload ∙ l.owes;
-      place = then.place c.in-At.at l.place;
-      tried = tried-next C.object C.primitive _ _ _ _ _ _ _ refl tt (omega arith) l.tried is m;
+      place = then.place c.in-Ok-At.at l.place;
+      tried = tried-next C.object C.primitive _ _ _ _ _ _ _ _ refl tt (omega arith) l.tried is m;
     }
 
-pub loop-state-preserved-in-Err-serve : goal.loop-state-preserved-in-Err-serve
-loop-state-preserved-in-Err-serve g c =
+pub loop-state-preserved-in-Err-serve-2 : goal.loop-state-preserved-in-Err-serve-2
+loop-state-preserved-in-Err-serve-2 g c =
     let C = g.C.ClientWords in
     let l = c.loop-state.invariant in
-    let m = c.in-Err-serve.ensures.missed in
+    let m = c.in-Err-serve-2.ensures.missed in
     let is = shown-injective l.tried.glimpse.state state.Waiter (l.tried.state_is ∙ c.in-Waiter.is) in
     let then = stays-missed C.object C.primitive _ _ _ _ _ m in record {
-      belongs = c.in-Err-serve.ensures.belongs;
+      belongs = c.in-Err-serve-2.ensures.belongs;
       number = l.number;
       ticket = then.doing ∙ l.ticket;
       owes = then.payload ∙ l.owes;
-      place = then.place c.in-At.at l.place;
-      tried = tried-next C.object C.primitive _ _ _ _ _ _ _ refl tt (omega arith) l.tried is m;
+      place = then.place c.in-Ok-At.at l.place;
+      tried = tried-next C.object C.primitive _ _ _ _ _ _ _ _ refl tt (omega arith) l.tried is m;
     }
 
 pub loop-state-preserved : goal.loop-state-preserved
@@ -73,8 +75,8 @@ loop-state-preserved g c =
       number = l.number;
       ticket = then.doing ∙ l.ticket;
       owes = then.payload ∙ l.owes;
-      place = then.place c.in-At.at l.place;
-      tried = tried-next C.object C.primitive _ _ _ _ _ _ _ refl tt (omega arith) l.tried is m;
+      place = then.place c.in-Ok-At.at l.place;
+      tried = tried-next C.object C.primitive _ _ _ _ _ _ _ _ refl tt (omega arith) l.tried is m;
     }
 
 pub returns-in-Ok-leave_value-clause-met : goal.returns-in-Ok-leave_value-clause-met
@@ -138,11 +140,11 @@ returns-in-Refused-clause-met g c =
           (worked-refused C.object C.primitive _ _ _ _ c.look.ensures.looks c.in-Refused.is),
     )
 
-pub returns-in_default-clause-met : goal.returns-in_default-clause-met
-returns-in_default-clause-met g c =
+pub returns-in-Ok-Over-clause-met : goal.returns-in-Ok-Over-clause-met
+returns-in-Ok-Over-clause-met g c =
     let C = g.C.ClientWords in
-    let way = way-stayed C.object C.primitive 0 _ _ _
-    (way-searched C.object C.primitive _ _ c.in_default.ensures.searched) c.place_after-after.ensures.stayed in
+    let way = way-stayed C.object C.primitive 0 _ _ _ _
+    (way-searched C.object C.primitive _ _ _ c.locate.ensures.searched) c.place_after-after.ensures.stayed in
     met-by C.object C.primitive passes_over state.Cancelled doing.Owes (λ k. k ∷ []) 0 _ _ _ _ _ _
     c.place_after-after.ensures.index (end-over C.object.gains _) (omega arith) c.requires.payload way
     (worked-gone C.object C.primitive _ _ _ _ c.pass_over.ensures.over)

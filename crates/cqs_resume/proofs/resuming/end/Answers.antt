@@ -3,10 +3,12 @@ use Rattle.cqs_core.specs.declared.cells.CoreState.TheVariants as state
 use Rattle.cqs_core.specs.declared.doings.Doing.TheVariants as doing
 use Rattle.cqs_core.specs.QueueSteps.{passes_over}
 use Rattle.cqs_rule_laws.specs.declared.view.View.{View}
-use Rattle.cqs_rule.specs.Owed.{under_ticket}
+use Rattle.cqs_rule.specs.Owed.{under_payload, under_ticket}
 use Rattle.cqs_rule.specs.Passes.{pass_view}
-use Rattle.cqs_resume.specs.Resumes.{Resumes}
-use Rattle.cqs_resume.proofs.Runs.{went-open, resumes-now, resumes-then}
+use Rattle.cqs_rule.proofs.Segments.{ample-view}
+use Rattle.cqs_resume.specs.Resumes.{GoesOn}
+use Rattle.cqs_resume.proofs.Holds.{goes-amply, goes-open, goes-then}
+use Rattle.cqs_resume.proofs.Runs.{further-of, went-open}
 use Rattle.cqs_resume.proofs.resuming.end.Goals as goal
 
 pub returns-in-Some-meet-clause-resumed : goal.returns-in-Some-meet-clause-resumed
@@ -17,13 +19,20 @@ returns-in-Some-meet-clause-resumed g c =
     let v = pass_view spent.new.pass in
     let w = pass_view c.meet.new.pass in
     let ticket : Some k ≡ under_ticket c.args.under = sym c.in-Some.is ∙ spent.ensures.ticket in
-    let now : Resumes C.object C.primitive 64 (Some k) spent.result.0 v c.in-Some-meet.resumed w =
-    resumes-now C.object C.primitive false 64 spent.result.0 k c.in-Some-meet.resumed v v w (omega arith) tt
-    (λ s found m. went-open C.object C.primitive s found doing.Idle [] spent.result.0 k v w m)
+    let now : GoesOn C.object C.primitive 64 (Some k) spent.result.0 v c.in-Some-meet.resumed w =
+    goes-open C.object C.primitive 64 spent.result.0 k c.in-Some-meet.resumed v w (omega arith)
     c.in-Some-meet.ensures.met in
     subst (λ (z : Option ℕ × ℕ × View g.row.C-Entry.Denot g.row.C-Slot.Denot).
-    Resumes C.object C.primitive 64 z.0 z.1 z.2 c.in-Some-meet.resumed w)
+    GoesOn C.object C.primitive 64 z.0 z.1 z.2 c.in-Some-meet.resumed w)
     (λ i. (ticket i, spent.ensures.payload i, pass_view (spent.ensures.same i))) now
+
+pub returns-in-Some-meet-clause-ample : goal.returns-in-Some-meet-clause-ample
+returns-in-Some-meet-clause-ample g c = λ ample.
+    let C = g.C.ClientWords in
+    goes-amply C.object C.primitive 64 (under_payload c.args.under) (under_ticket c.args.under) c.in-Some-meet.resumed
+    (pass_view c.args.pass.now) (pass_view c.meet.new.pass)
+    (ample-view c.args.queue.now c.args.pass.now c.requires.belongs ample)
+    (returns-in-Some-meet-clause-resumed g c)
 
 pub returns-in-None-clause-resumed : goal.returns-in-None-clause-resumed
 returns-in-None-clause-resumed g c =
@@ -36,9 +45,17 @@ returns-in-None-clause-resumed g c =
     let ticket : Some k ≡ under_ticket c.args.under = sym c.in-Some.is ∙ spent.ensures.ticket in
     let t = went-open C.object C.primitive passes_over state.Cancelled doing.Owes
     (k ∷ []) spent.result.0 k v u c.in-None.ensures.met in
-    let now : Resumes C.object C.primitive 64 (Some k) spent.result.0 v c.go_on-in-None.result w =
-    resumes-then C.object C.primitive false 64 spent.result.0 k c.go_on-in-None.result v u w t tt
+    let now : GoesOn C.object C.primitive 64 (Some k) spent.result.0 v c.go_on-in-None.result w =
+    goes-then C.object C.primitive false 64 spent.result.0 k c.go_on-in-None.result v u w t tt
     c.go_on-in-None.ensures.resumed in
     subst (λ (z : Option ℕ × ℕ × View g.row.C-Entry.Denot g.row.C-Slot.Denot).
-    Resumes C.object C.primitive 64 z.0 z.1 z.2 c.go_on-in-None.result w)
+    GoesOn C.object C.primitive 64 z.0 z.1 z.2 c.go_on-in-None.result w)
     (λ i. (ticket i, spent.ensures.payload i, pass_view (spent.ensures.same i))) now
+
+pub returns-in-None-clause-ample : goal.returns-in-None-clause-ample
+returns-in-None-clause-ample g c = λ ample.
+    let C = g.C.ClientWords in
+    goes-amply C.object C.primitive 64 (under_payload c.args.under) (under_ticket c.args.under) c.go_on-in-None.result
+    (pass_view c.args.pass.now) (pass_view c.go_on-in-None.new.pass)
+    (ample-view c.args.queue.now c.args.pass.now c.requires.belongs ample)
+    (returns-in-None-clause-resumed g c)

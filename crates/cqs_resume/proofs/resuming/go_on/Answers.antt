@@ -1,12 +1,13 @@
-use Rattle.std.proofs.Common.{◌≡◌, ◌+◌, ◌-◌, ◌∷◌, [], None, true, ap, ◌∙◌, subst, arith}
+use Rattle.std.proofs.Common.{◌≡◌, ◌+◌, ◌-◌, ◌∷◌, [], None, true, ap, ◌∙◌, subst, inl, arith}
 use Rattle.cqs_core.specs.declared.cells.CoreState.TheVariants as state
 use Rattle.cqs_core.specs.declared.doings.Doing.TheVariants as doing
 use Rattle.cqs_core.specs.QueueSteps.{passes_over}
 use Rattle.cqs_rule_laws.specs.declared.view.Facts.{Facts}
 use Rattle.cqs_rule.specs.Passes.{pass_view}
 use Rattle.cqs_resume.specs.declared.resumed.Resumed.TheVariants.{Under}
-use Rattle.cqs_resume.specs.Resumes.{Resumes}
-use Rattle.cqs_resume.proofs.Runs.{went-drawn, stopped-now, resumes-now, resumes-then}
+use Rattle.cqs_resume.specs.Resumes.{GoesOn}
+use Rattle.cqs_resume.proofs.Holds.{goes-drawn, goes-then}
+use Rattle.cqs_resume.proofs.Runs.{went-drawn, stopped-now}
 use Rattle.cqs_resume.proofs.resuming.go_on.Goals as goal
 
 pub returns-in-Some-clause-resumed : goal.returns-in-Some-clause-resumed
@@ -18,11 +19,8 @@ returns-in-Some-clause-resumed g c =
     let x = pass_view c.add_table-number.new.pass in
     let w = pass_view c.meet.new.pass in
     l.rest c.in-Some.resumed w
-    (resumes-now C.object C.primitive true c.loop-resumed.left c.args.payload k c.in-Some.resumed v x w l.some
-    c.add_table-number.ensures.after
-    (λ s found m. went-drawn C.object C.primitive s found doing.Idle
-    [] c.args.payload k v x w l.payload c.add_table-number.ensures.saw m)
-    c.in-Some.ensures.met)
+    (goes-drawn C.object C.primitive c.loop-resumed.left c.args.payload k c.in-Some.resumed v x w l.some l.payload
+    c.add_table-number.ensures.after c.add_table-number.ensures.saw c.in-Some.ensures.met)
 
 pub returns-then-left-eq0-clause-resumed : goal.returns-then-left-eq0-clause-resumed
 returns-then-left-eq0-clause-resumed g c =
@@ -41,9 +39,9 @@ returns-then-left-eq0-clause-resumed g c =
     let some = l.some in
     let one : 1 ≡ c.loop-resumed.left = omega arith in
     l.rest (Under c.under_of.result) w
-    (subst (λ z. Resumes C.object C.primitive z None c.args.payload v (Under c.under_of.result) w) one
-    (stopped-now C.object C.primitive c.args.payload k c.under_of.result v u w t c.add_table-number.ensures.after
-    (ap pass_view under.same) under.payload under.ticket under.reached under.owes))
+    (subst (λ z. GoesOn C.object C.primitive z None c.args.payload v (Under c.under_of.result) w) one
+    (inl (stopped-now C.object C.primitive c.args.payload k c.under_of.result v u w t c.add_table-number.ensures.after
+    (ap pass_view under.same) under.payload under.ticket under.reached under.owes)))
 
 pub loop-resumed-preserved : goal.loop-resumed-preserved
 loop-resumed-preserved g c =
@@ -67,7 +65,7 @@ loop-resumed-preserved g c =
       some = omega arith;
       few = omega arith;
       rest = λ result w e. l.rest result w
-          (subst (λ z. Resumes C.object C.primitive z None c.args.payload v result w) same
-          (resumes-then C.object C.primitive true
+          (subst (λ z. GoesOn C.object C.primitive z None c.args.payload v result w) same
+          (goes-then C.object C.primitive true
           (left - 1) c.args.payload k result v u w t c.add_table-number.ensures.after e));
     }

@@ -3,7 +3,7 @@ use Rattle.cqs_core.specs.declared.doings.Doing.TheVariants as doing
 use Rattle.cqs_rule_laws.specs.declared.view.View.{View}
 use Rattle.cqs_rule.specs.Passes.{pass_view, IsOf}
 use Rattle.cqs_resume.specs.declared.resumed.Resumed.{Resumed}
-use Rattle.cqs_resume.specs.Resumes.{Resumes}
+use Rattle.cqs_resume.specs.Resumes.{GoesOn}
 use Rattle.cqs_resume.proofs.resuming.go_on.Given as goal
 
 abbrev pub invariant-loop-resumed : goal.invariant-loop-resumed
@@ -14,8 +14,8 @@ invariant-loop-resumed g l = record {
   some : 0 < l.left;
   few : l.left ≤ l.most;
   rest : (result : Resumed) (w : View g.row.C-Entry.Denot g.row.C-Slot.Denot)
-      → Resumes g.C.ClientWords.object g.C.ClientWords.primitive l.left None l.payload (pass_view l.pass) result w
-      → Resumes g.C.ClientWords.object g.C.ClientWords.primitive l.most None l.payload (pass_view l.fn.pass) result w;
+      → GoesOn g.C.ClientWords.object g.C.ClientWords.primitive l.left None l.payload (pass_view l.pass) result w
+      → GoesOn g.C.ClientWords.object g.C.ClientWords.primitive l.most None l.payload (pass_view l.fn.pass) result w;
 }
 
 abbrev pub decreases-loop-resumed : goal.decreases-loop-resumed

@@ -1,23 +1,27 @@
-use Rattle.std.proofs.Common.{◌∷◌, [], true, arith}
+use Rattle.std.proofs.Common.{◌∷◌, [], None, true, arith}
 use Rattle.cqs_core.specs.declared.cells.CoreState.TheVariants as state
 use Rattle.cqs_core.specs.declared.doings.Doing.TheVariants as doing
 use Rattle.cqs_core.specs.QueueSteps.{passes_over}
 use Rattle.cqs_rule.specs.Passes.{pass_view}
-use Rattle.cqs_resume.proofs.Runs.{went-drawn, resumes-now, resumes-then}
+use Rattle.cqs_rule.proofs.Segments.{ample-view}
+use Rattle.cqs_resume.proofs.Holds.{goes-amply, goes-drawn, goes-then}
+use Rattle.cqs_resume.proofs.Runs.{went-drawn}
 use Rattle.cqs_resume.proofs.resuming.resume.Goals as goal
 
 pub returns-in-Some-clause-resumed : goal.returns-in-Some-clause-resumed
 returns-in-Some-clause-resumed g c =
     let C = g.C.ClientWords in
-    let k = c.add_table-number.result in
-    let v = pass_view c.args.pass.now in
-    let x = pass_view c.add_table-number.new.pass in
-    let w = pass_view c.meet.new.pass in
-    resumes-now C.object C.primitive true 64 c.args.payload k c.in-Some.resumed v x w (omega arith)
-    c.add_table-number.ensures.after
-    (λ s found m. went-drawn C.object C.primitive s found doing.Idle [] c.args.payload k v x w c.requires.payload
-    c.add_table-number.ensures.saw m)
-    c.in-Some.ensures.met
+    goes-drawn C.object C.primitive 64 c.args.payload c.add_table-number.result c.in-Some.resumed
+    (pass_view c.args.pass.now) (pass_view c.add_table-number.new.pass) (pass_view c.meet.new.pass) (omega arith)
+    c.requires.payload c.add_table-number.ensures.after c.add_table-number.ensures.saw c.in-Some.ensures.met
+
+pub returns-in-Some-clause-ample : goal.returns-in-Some-clause-ample
+returns-in-Some-clause-ample g c = λ ample.
+    let C = g.C.ClientWords in
+    goes-amply C.object C.primitive 64 c.args.payload None c.in-Some.resumed
+    (pass_view c.args.pass.now) (pass_view c.meet.new.pass)
+    (ample-view c.args.queue.now c.args.pass.now c.requires.belongs ample)
+    (returns-in-Some-clause-resumed g c)
 
 pub returns-in-None-clause-resumed : goal.returns-in-None-clause-resumed
 returns-in-None-clause-resumed g c =
@@ -30,5 +34,13 @@ returns-in-None-clause-resumed g c =
     let t = went-drawn C.object C.primitive passes_over state.Cancelled doing.Owes
     (k ∷ []) c.args.payload k v x u c.requires.payload
     c.add_table-number.ensures.saw c.in-None.ensures.met in
-    resumes-then C.object C.primitive true 63 c.args.payload k c.go_on.result v u w t c.add_table-number.ensures.after
+    goes-then C.object C.primitive true 63 c.args.payload k c.go_on.result v u w t c.add_table-number.ensures.after
     c.go_on.ensures.resumed
+
+pub returns-in-None-clause-ample : goal.returns-in-None-clause-ample
+returns-in-None-clause-ample g c = λ ample.
+    let C = g.C.ClientWords in
+    goes-amply C.object C.primitive 64 c.args.payload None c.go_on.result
+    (pass_view c.args.pass.now) (pass_view c.go_on.new.pass)
+    (ample-view c.args.queue.now c.args.pass.now c.requires.belongs ample)
+    (returns-in-None-clause-resumed g c)

@@ -14,6 +14,7 @@ use cqs_rule::{ClientWords, LeavesAtOnce, Pass, Place, Queue};
 use cqs_words::CellState;
 
 /// The owner of a wait leaves: the wait is over, and the resume that comes to its cell ends there.
+#[inline(always)]
 pub fn leave_at_once<C: ClientWords>(
     queue: &Queue<C>,
     pass: &mut Pass<C>,

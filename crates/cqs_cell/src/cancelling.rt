@@ -15,6 +15,7 @@ use cqs_rule::{ClientWords, Pass, Place, Queue, StartsLeaving};
 use cqs_words::CellState;
 
 /// The owner of a wait begins to leave. Its client is to be asked next.
+#[inline(always)]
 pub fn begin_cancel<C: ClientWords>(
     queue: &Queue<C>,
     pass: &mut Pass<C>,
@@ -40,6 +41,7 @@ pub fn begin_cancel<C: ClientWords>(
 /// A canceller ends its leaving by what was decided: resumes pass over the cell, or the one that
 /// comes ends there. It answers the payload that a resume had left for it. It never fails: nobody
 /// else ends what it began.
+#[inline(always)]
 pub fn settle<C: ClientWords>(
     queue: &Queue<C>,
     pass: &mut Pass<C>,

@@ -23,7 +23,7 @@ use cqs_words::{CellState, CellWord};
 
 // The exchange that the step K makes, from a cell in the state found, with this payload, to one in
 // the state made, with what is left. It answers the cell that was found where that is another.
-#[inline]
+#[inline(always)]
 pub(crate) fn cross<C: ClientWords, K: Kind>(
     queue: &Queue<C>,
     pass: &mut Pass<C>,
@@ -68,6 +68,7 @@ pub(crate) fn cross<C: ClientWords, K: Kind>(
 }
 
 // The same, of a cell that the pass found so last and from which nobody else goes on: it is made.
+#[inline(always)]
 pub(crate) fn cross_surely<C: ClientWords, K: Kind>(
     queue: &Queue<C>,
     pass: &mut Pass<C>,
@@ -102,7 +103,7 @@ pub(crate) fn cross_surely<C: ClientWords, K: Kind>(
 
 // The exchange itself, from the word of a cell with this payload to another word. It answers the
 // word that was found where that is another.
-#[inline]
+#[inline(always)]
 fn exchange<C: ClientWords, K: Kind>(
     queue: &Queue<C>,
     pass: &mut Pass<C>,

@@ -7,7 +7,7 @@ ghost use Rattle.cqs_cell.specs.Found.{cell_found};
 use cqs_words::{CellState, CellWord};
 
 // A word of another number says that the cell has left, which it does only after it was cancelled.
-#[inline]
+#[inline(always)]
 pub(crate) fn cell_found(word: u64, index: u64) -> CellWord
     ensures { result ≡ cell_found index (unpacked_cell word) }
 {

@@ -16,6 +16,7 @@ use cqs_rule::{ClientWords, LeavesLine, Pass, Place, Queue};
 use cqs_words::CellState;
 
 /// The owner of a wait leaves the line.
+#[inline(always)]
 pub fn leave_line<C: ClientWords>(
     queue: &Queue<C>,
     pass: &mut Pass<C>,
@@ -40,6 +41,7 @@ pub fn leave_line<C: ClientWords>(
 
 /// One who has left the line ends its leaving. It answers the payload that a resume had left for
 /// it.
+#[inline(always)]
 pub fn settle_left<C: ClientWords>(queue: &Queue<C>, pass: &mut Pass<C>, at: Place) -> Option<u32>
     requires belongs { IsOf queue.now pass.old }
     requires passes_on { PassesOn (C.primitive (client_of queue.now)).manner.leaving }

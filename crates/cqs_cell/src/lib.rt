@@ -17,6 +17,10 @@
 //!
 //! The entries are those of a client whose object has one for a delivery; when a wait leaves is for
 //! its client to say.
+//!
+//! Each call is compiled into its caller (`#[inline(always)]`). What is rare in it, the taking out
+//! of a full segment, stands apart in `cqs_rule` and gets no address of the pass; so the pass needs
+//! no memory in the caller.
 #![tactic(auto)]
 
 mod at_once;

@@ -14,7 +14,7 @@ use cqs_words::{CellState, CellWord};
 /// what it wants to learn there: `Polls`, whether it was served, and `Cancels`, whether it is too
 /// late to cancel; a resume meets by `Meets` a cell that is settled. A cell that has left with its
 /// segment is answered as Cancelled, with the payload 0: it leaves only after that.
-#[inline]
+#[inline(always)]
 pub fn look<C: ClientWords, L: Load>(queue: &Queue<C>, pass: &mut Pass<C>, at: Place) -> CellWord
     requires belongs { IsOf queue.now pass.old }
     requires suits { LoadSuits (C.primitive (client_of queue.now)).manner L.load }
@@ -28,6 +28,7 @@ pub fn look<C: ClientWords, L: Load>(queue: &Queue<C>, pass: &mut Pass<C>, at: P
 
 /// Loads the cell of a number, whoever works there, and answers it as it was found. It shows no
 /// event. A cell that has left with its segment is answered as Cancelled, whatever it had become.
+#[inline(always)]
 pub fn watch<C: ClientWords>(queue: &Queue<C>, pass: &mut Pass<C>, at: Place) -> CellWord
     requires belongs { IsOf queue.now pass.old }
     requires place { KnowsPlace (pass_view pass.old) at }
@@ -40,7 +41,7 @@ pub fn watch<C: ClientWords>(queue: &Queue<C>, pass: &mut Pass<C>, at: Place) ->
 
 /// Looks by its owner whether a wait was served, and answers what was left in the cell then; where
 /// the wait goes on, nothing. It is the look by `Polls`, and asks the word that one question.
-#[inline]
+#[inline(always)]
 pub fn look_for_grant<C: ClientWords>(
     queue: &Queue<C>,
     pass: &mut Pass<C>,
@@ -57,7 +58,7 @@ pub fn look_for_grant<C: ClientWords>(
 }
 
 // The load itself. It answers the word found.
-#[inline]
+#[inline(always)]
 fn load_cell<C: ClientWords, L: Load>(queue: &Queue<C>, pass: &mut Pass<C>, at: Place) -> u64
     requires belongs { IsOf queue.now pass.old }
     requires suits { LoadSuits (C.primitive (client_of queue.now)).manner L.load }

@@ -13,6 +13,7 @@ use cqs_rule::{ClientWords, Pass, Place, Queue, Refuses, RefusesValue, Settles, 
 use cqs_words::CellState;
 
 // Resumes pass over the cell.
+#[inline(always)]
 #[tactic(auto, using(crate::proofs::Made::made_after_miss))]
 pub(crate) fn settle_cancelled<C: ClientWords>(
     queue: &Queue<C>,
@@ -38,6 +39,7 @@ pub(crate) fn settle_cancelled<C: ClientWords>(
 }
 
 // The resume that comes to the cell ends there.
+#[inline(always)]
 #[tactic(auto, using(crate::proofs::Made::made_after_miss))]
 pub(crate) fn settle_refused<C: ClientWords>(
     queue: &Queue<C>,

@@ -13,6 +13,7 @@ use cqs_rule::{ClientWords, Delegates, Installs, Leaves, Pass, Place, Queue, Ser
 use cqs_words::CellState;
 
 /// An empty cell gets a waiter, by the suspend of its number.
+#[inline(always)]
 pub fn install<C: ClientWords>(
     queue: &Queue<C>,
     pass: &mut Pass<C>,
@@ -33,6 +34,7 @@ pub fn install<C: ClientWords>(
 }
 
 /// An empty cell gets what its resume owes.
+#[inline(always)]
 pub fn leave_value<C: ClientWords>(
     queue: &Queue<C>,
     pass: &mut Pass<C>,
@@ -55,6 +57,7 @@ pub fn leave_value<C: ClientWords>(
 }
 
 /// The waiter in a cell is served, by the resume of its number, and woken if it sleeps there.
+#[inline(always)]
 pub fn serve<C: ClientWords>(
     queue: &Queue<C>,
     pass: &mut Pass<C>,
@@ -80,6 +83,7 @@ pub fn serve<C: ClientWords>(
 }
 
 /// The canceller of a wait gets what the resume of its number owes, and is to go on with it.
+#[inline(always)]
 pub fn delegate<C: ClientWords>(
     queue: &Queue<C>,
     pass: &mut Pass<C>,

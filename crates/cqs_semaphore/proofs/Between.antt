@@ -19,7 +19,7 @@ under-between : (f : Facts) (under : token.Under) → HasUnder f under → IsBet
 under-between f under has = inr (ap is_owing has.owes.doing ∙ owing-at under.ticket)
 
 module _ {T : Type 0} where
-  ends-between : (v w : View Entry T) (held : ℕ) (waits : List ℕ) (released : Released)
+  pub ends-between : (v w : View Entry T) (held : ℕ) (waits : List ℕ) (released : Released)
       → Ends v held waits released w → IsBetween w.facts
   ends-between v w held waits Freed ends = absurd ends
   ends-between v w held waits (Sent k) ends = inl ends.1.ready.idle

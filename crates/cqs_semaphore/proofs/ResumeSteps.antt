@@ -1,5 +1,5 @@
 -- A resumption, as a permit's: it ended at a cell, or was handed back.
-use Rattle.std.proofs.Common.{◌≡◌, ℕ, List, ◌++◌, Option, refl, ap, ◌∙◌, arith, inl, inr}
+use Rattle.std.proofs.Common.{◌≡◌, ℕ, List, ◌++◌, Option, sym, refl, ap, ◌∙◌, subst, arith, inl, inr}
 use Rattle.cqs_core.specs.declared.cells.CoreState.{CoreState}
 use Rattle.cqs_core.specs.declared.cells.CoreState.TheVariants as state
 use Rattle.cqs_core.specs.declared.entries.Entry.{Entry}
@@ -13,18 +13,28 @@ use Rattle.cqs_rule.specs.declared.queue.tokens.Under.{Under}
 use Rattle.cqs_semaphore_client.specs.Semaphore.{semaphore_object}
 use Rattle.cqs_resume.specs.declared.resumed.Resumed.{Resumed}
 use Rattle.cqs_resume.specs.declared.resumed.Resumed.TheVariants as resumed
+use Rattle.cqs_resume.specs.Resumes as resume
 use Rattle.cqs_resume.specs.Resumes.{Ended, Stopped, Resumes}
 use Rattle.cqs_resume.specs.Rounds.{numbers}
 use Rattle.cqs_resume.proofs.Ends.{IsQuiet, EndedAt, ended-at, handed-back, drawn-few}
 use Rattle.cqs_semaphore.specs.Answers.{Ends, HandsBack, most_passed_over}
 use Rattle.cqs_semaphore.specs.Calls.{Rests}
 use Rattle.cqs_semaphore.specs.Causes.{primitive_of}
+use Rattle.cqs_semaphore.specs.declared.answers.Released.{Released}
 use Rattle.cqs_semaphore.specs.Entries.{resumed_further}
-use Rattle.cqs_semaphore.specs.Steps.{as_released}
+use Rattle.cqs_semaphore.specs.Steps.{as_released, IsFurther}
 
 -- only its last step shows an entry
 pub quiet : IsQuiet semaphore_object
 quiet = record { drawing = λ p k payload. refl; passing = λ p k payload. refl }
+
+-- the numbers of one resumption go up, told of either answer
+pub further-so : (reached : ℕ) (r : Resumed) (a : Released) → a ≡ as_released r → resume.IsFurther reached r
+    → IsFurther reached a
+further-so reached (resumed.Served k) a is f = subst (IsFurther reached) (sym is) tt
+further-so reached (resumed.Left k) a is f = subst (IsFurther reached) (sym is) tt
+further-so reached (resumed.Refused k) a is f = subst (IsFurther reached) (sym is) tt
+further-so reached (resumed.Under under) a is f = subst (IsFurther reached) (sym is) f
 
 module _ {T : Type 0} where
   -- it ended at the cell of the number k

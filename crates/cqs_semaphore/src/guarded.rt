@@ -32,7 +32,7 @@ impl<T: Send + Drop> Semaphore<Kept<T>> {
         ensures ready { IfOk result (λ made. Rests (pass_view made.1) 0 [] (pass_view made.1)) }
     {
         let client = SemClient::guarded();
-        let (queue, pass) = Queue::new(alloc, config, CancelMode::Smart, client)?;
+        let (queue, pass) = Queue::ample(alloc, config, CancelMode::Smart, client)?;
         Ok((Semaphore { queue }, pass))
     }
 }

@@ -4,12 +4,10 @@ ghost use Rattle.std.specs.Prelude.{◌≡◌, ◌⊎◌, ◌<◌, ◌≤◌, []
 ghost use mathlib.Core.Logic.{◌↔◌};
 ghost use Rattle.cqs_core.specs.SemaphoreShown.{state_of};
 ghost use Rattle.cqs_rule_laws.specs.Configured.{is_config};
-ghost use Rattle.cqs_rule.specs.Passes.{pass_view, passes_of, limit_of};
+ghost use Rattle.cqs_rule.specs.Passes.{ample_of, pass_view, passes_of, limit_of};
 ghost use Rattle.cqs_rule_laws.specs.Views.{first_view};
 ghost use Rattle.cqs_rule_laws.specs.declared.config.CancelMode.TheVariants.{Smart};
 ghost use Rattle.cqs_rule_laws.specs.CallRule.{IsReady};
-ghost use Rattle.cqs_semaphore.specs.Calls.{Rests, IsMine, CallRule, permits_in, plain_after};
-ghost use Rattle.cqs_semaphore.specs.Causes.{FoundJust, StateWas};
 
 use cqs_rule::{CancelMode, Carries, Config, MakeError, Pass, Queue, Unparked};
 use cqs_semaphore_client::{SemClient, read_state};
@@ -26,9 +24,13 @@ const MOST_PERMITS: u32 = 1_048_576;
 #[derive(Drop)]
 pub struct Semaphore<T: Carries = ()> {
     pub(crate) queue: Queue<SemClient<T>>,
+    // All segments are made as the table opens, so no call needs a spare slot.
+    pub ghost ample_is: { ample_of queue ≡ true },
 }
 
 impl Semaphore {
+    ghost use Rattle.cqs_semaphore.specs.Calls.{Rests, IsMine, permits_in};
+
     /// A semaphore with all its permits free, and its first pass, which has number 0 and has seen
     /// nothing. There are from 1 to 1,048,576 permits.
     pub fn new(
@@ -52,12 +54,14 @@ impl Semaphore {
             return Err(MakeError::BadConfig);
         }
         let client = SemClient::new(permits);
-        let (queue, pass) = Queue::new(alloc, config, CancelMode::Smart, client)?;
+        let (queue, pass) = Queue::ample(alloc, config, CancelMode::Smart, client)?;
         Ok((Semaphore { queue }, pass))
     }
 }
 
 impl Semaphore<Unparked> {
+    ghost use Rattle.cqs_semaphore.specs.Calls.{Rests, IsMine, permits_in};
+
     /// The same for callers who never park: each looks at its wait when it likes. Such a semaphore
     /// wakes nobody, and so it may stand in a static library.
     pub fn unparked(
@@ -81,12 +85,15 @@ impl Semaphore<Unparked> {
             return Err(MakeError::BadConfig);
         }
         let client = SemClient::unparked(permits);
-        let (queue, pass) = Queue::new(alloc, config, CancelMode::Smart, client)?;
+        let (queue, pass) = Queue::ample(alloc, config, CancelMode::Smart, client)?;
         Ok((Semaphore { queue }, pass))
     }
 }
 
 impl<T: Carries + Send> Semaphore<T> {
+    ghost use Rattle.cqs_semaphore.specs.Calls.{Rests, IsMine, CallRule, plain_after};
+    ghost use Rattle.cqs_semaphore.specs.Causes.{FoundJust, StateWas};
+
     /// The state: the free permits, less those who wait with none on its way.
     pub fn state(&self, pass: &mut SemPass<T>) -> i64
         requires belongs { IsMine self.now pass.old }

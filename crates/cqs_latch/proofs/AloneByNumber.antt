@@ -43,7 +43,7 @@ use Rattle.cqs_latch.specs.Waking.{Ending, served_at, left_at, missed_at, ending
 use Rattle.cqs_latch.proofs.AloneHoles.{first-hole, hole-apart, hole-drawn, holes-ahead, holes-rise, missed-behind, served-behind}
 use Rattle.cqs_latch.proofs.AloneOpen.{all-idle, no-more, none-due, shows-plain_after}
 use Rattle.cqs_latch.proofs.AloneOrder.{after-alone, allowed-last, rising-line, seen-alone}
-use Rattle.cqs_latch.proofs.WakeSteps.{next-ran, on-ran, woken-append}
+use Rattle.cqs_latch.proofs.WakeSteps.{never-under, next-ran, on-ran, woken-append}
 
 all-above : {Y : Type 0} (key : Y → ℕ) (n : ℕ) (ys : List Y) → ((y : Y) → IsIn y ys → n < key y) → AllAbove key n ys
 all-above key n [] above = tt
@@ -210,6 +210,7 @@ module _ {T : Type 0} where
     begun-ends (once.Missed k) b =
         let r = (next-ran (missed_at k) v w b).1 in
         ends-missed k r.along.called r.idle
+    begun-ends (once.Under under) b = absurd b.meets
 
     pub finished-ends : (under : Under) (r : EndedAtOnce)
         → FinishedAtOnce latch_object primitive_of (under_ticket under) (under_payload under) v r w → EndsFirst [] v w
@@ -221,6 +222,8 @@ module _ {T : Type 0} where
     finished-ends under (once.Missed k) f =
         let r = (on-ran under (missed_at k) v w f).1 in
         ends-missed k r.along.called r.idle
+    finished-ends under (once.Under again) f =
+        absurd (never-under (under_ticket under) (under_payload under) again v w f)
 
   -- one after the other
   pub ends-then : (own : List LatchEntry) (v u w : View LatchEntry T) → EndsFirst own v u → EndsFirst [] u w

@@ -29,7 +29,7 @@ use Rattle.cqs_rule_laws.proofs.Calls.{called-none}
 use Rattle.cqs_rule_laws.proofs.Rules.{NoneName, called-weak}
 use Rattle.cqs_latch.specs.Causes.{primitive_of, CellWas}
 use Rattle.cqs_latch.specs.Latch.{latch_object}
-use Rattle.cqs_latch.specs.Waking.{Ending, served_at, left_at, refused_at, missed_at, ending_entries, woken_entries, handed_back, NextEnded, NextHanded, Next, OnEnded, On, Woke}
+use Rattle.cqs_latch.specs.Waking.{Ending, served_at, left_at, refused_at, missed_at, ending_entries, woken_entries, handed_back, handed_back_at_once, NextEnded, NextHanded, Next, OnEnded, On, Woke}
 use Rattle.cqs_latch.proofs.Along.{Along, along-first, along-and}
 
 -- a resumption that goes on shows no entry but that of its last step
@@ -62,6 +62,7 @@ abbrev pub once-entries : EndedAtOnce → List LatchEntry
 once-entries (once.Served k) = ending_entries (served_at k)
 once-entries (once.Left k) = []
 once-entries (once.Missed k) = ending_entries (missed_at k)
+once-entries (once.Under under) = []
 
 module _ {T : Type 0} where
   -- nothing was done yet
@@ -288,6 +289,7 @@ module _ {T : Type 0} where
   met-on payload k v w (once.Missed n) m =
       subst (λ j. Ran (step_entries ends_missed v.number j) 0 [] v w) (sym m.0)
       (met-ran ends_missed state.Cancelled payload k v w m.1)
+  met-on payload k v w (once.Under under) m = absurd m
 
   finished-on : (ticket : Option ℕ) (payload : ℕ) (v w : View LatchEntry T) (ended : EndedAtOnce)
       → FinishedAtOnce latch_object primitive_of ticket payload v ended w → Ran (once-entries ended) 0 [] v w
@@ -322,6 +324,15 @@ module _ {T : Type 0} where
   ended-next v w (once.Served k) b = (served_at k, inr b)
   ended-next v w (once.Left k) b = (left_at k, inr b)
   ended-next v w (once.Missed k) b = (missed_at k, b)
+  ended-next v w (once.Under under) b = absurd b.meets
+
+  -- in simple mode none is handed back
+  pub next-none : (v w : View LatchEntry T) (r : EndedAtOnce) → BegunAtOnce latch_object primitive_of 0 v r w
+      → handed_back_at_once r ≡ None
+  next-none v w (once.Served k) b = refl
+  next-none v w (once.Left k) b = refl
+  next-none v w (once.Missed k) b = refl
+  next-none v w (once.Under under) b = absurd b.meets
 
   pub resumed-on : (under : Under) (v w : View LatchEntry T) (r : Resumed)
       → Resumes latch_object primitive_of most_passed_over (under_ticket under) (under_payload under) v r w
@@ -331,8 +342,23 @@ module _ {T : Type 0} where
   resumed-on under v w (resumed.Refused k) e = (refused_at k, e)
   resumed-on under v w (resumed.Under again) e = e
 
+  -- none that went on is handed back again in simple mode
+  pub never-under : (ticket : Option ℕ) (payload : ℕ) (under : Under) (v w : View LatchEntry T)
+      → FinishedAtOnce latch_object primitive_of ticket payload v (once.Under under) w → ⊥
+  never-under (Some k) payload under v w f = f
+  never-under None payload under v w f = f.meets
+
   pub ended-on : (under : Under) (v w : View LatchEntry T) (r : EndedAtOnce)
       → FinishedAtOnce latch_object primitive_of (under_ticket under) (under_payload under) v r w → On under v None w
   ended-on under v w (once.Served k) f = (served_at k, inr f)
   ended-on under v w (once.Left k) f = (left_at k, inr f)
   ended-on under v w (once.Missed k) f = (missed_at k, f)
+  ended-on under v w (once.Under again) f = absurd (never-under (under_ticket under) (under_payload under) again v w f)
+
+  pub on-none : (under : Under) (v w : View LatchEntry T) (r : EndedAtOnce)
+      → FinishedAtOnce latch_object primitive_of (under_ticket under) (under_payload under) v r w
+      → handed_back_at_once r ≡ None
+  on-none under v w (once.Served k) f = refl
+  on-none under v w (once.Left k) f = refl
+  on-none under v w (once.Missed k) f = refl
+  on-none under v w (once.Under again) f = absurd (never-under (under_ticket under) (under_payload under) again v w f)

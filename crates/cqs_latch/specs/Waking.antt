@@ -3,6 +3,7 @@ use Rattle.std.specs.Prelude.{◌≡◌, ◌⊎◌, ℕ, ◌+◌, ◌<◌, ◌�
 use Rattle.cqs_core.specs.declared.cells.CoreState.TheVariants as state
 use Rattle.cqs_latch_object.specs.declared.entries.LatchEntry.{LatchEntry}
 use Rattle.cqs_latch_object.specs.declared.entries.LatchEntry.TheVariants as entry
+use Rattle.cqs_resume.specs.declared.at_once.EndedAtOnce.{EndedAtOnce}
 use Rattle.cqs_resume.specs.declared.at_once.EndedAtOnce.TheVariants as once
 use Rattle.cqs_resume.specs.declared.resumed.Resumed.{Resumed}
 use Rattle.cqs_resume.specs.declared.resumed.Resumed.TheVariants as resumed
@@ -39,6 +40,12 @@ handed_back (resumed.Served k) = None
 handed_back (resumed.Left k) = None
 handed_back (resumed.Refused k) = None
 handed_back (resumed.Under under) = Some under
+
+abbrev pub handed_back_at_once : EndedAtOnce → Option Under
+handed_back_at_once (once.Served k) = None
+handed_back_at_once (once.Left k) = None
+handed_back_at_once (once.Missed k) = None
+handed_back_at_once (once.Under under) = Some under
 
 -- The number that was drawn last for the resumptions of a pass, at first this, never falls; and
 -- where one is handed back, it has grown.

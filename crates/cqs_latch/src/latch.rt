@@ -4,7 +4,7 @@ ghost use Rattle.std.specs.Prelude.{◌≡◌, ◌⊎◌, ◌<◌, [], ◌∷◌
 ghost use mathlib.Core.Logic.{◌↔◌};
 ghost use Rattle.cqs_latch.specs.LatchMade.{count_of, mode_of};
 ghost use Rattle.cqs_rule_laws.specs.Configured.{is_config};
-ghost use Rattle.cqs_rule.specs.Passes.{pass_view, passes_of, limit_of, client_of};
+ghost use Rattle.cqs_rule.specs.Passes.{ample_of, pass_view, passes_of, limit_of, client_of};
 
 use crate::client::LatchClient;
 use cqs_rule::{CancelMode, Carries, Config, MakeError, Pass, Queue, Unparked};
@@ -23,6 +23,8 @@ pub struct Latch<T: Carries = ()> {
     pub(crate) queue: Queue<LatchClient<T>>,
     pub(crate) mode: CancelMode,
     pub ghost mode_is: { mode_of (client_of queue) ≡ mode },
+    // All segments are made as the table opens, so no call needs a spare slot.
+    pub ghost ample_is: { ample_of queue ≡ true },
 }
 
 impl Latch {
@@ -107,7 +109,7 @@ impl<T: Carries + Send> Latch<T> {
             return Err(MakeError::BadConfig);
         }
         let client = LatchClient::new(count, mode);
-        let (queue, pass) = Queue::new(alloc, config, mode, client)?;
+        let (queue, pass) = Queue::ample(alloc, config, mode, client)?;
         Ok((Latch { queue, mode }, pass))
     }
 

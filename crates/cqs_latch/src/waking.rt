@@ -13,7 +13,7 @@ ghost use Rattle.cqs_rule_laws.specs.declared.config.CancelMode.TheVariants.{Sma
 
 use crate::answers::Owed;
 use crate::latch::{Latch, LatchPass};
-use cqs_resume::{Resumed, begin, begin_at_once, finish, finish_at_once};
+use cqs_resume::{EndedAtOnce, Resumed, begin, begin_at_once, finish, finish_at_once};
 use cqs_rule::{CancelMode, Carries, Under};
 
 impl<T: Carries + Send> Latch<T> {
@@ -68,10 +68,7 @@ impl<T: Carries + Send> Latch<T> {
     {
         match self.mode {
             CancelMode::Smart => handed_back(begin(&self.queue, pass, 0)),
-            CancelMode::Simple => {
-                begin_at_once(&self.queue, pass, 0);
-                None
-            }
+            CancelMode::Simple => handed_back_at_once(begin_at_once(&self.queue, pass, 0)),
         }
     }
 
@@ -93,10 +90,7 @@ impl<T: Carries + Send> Latch<T> {
     {
         match self.mode {
             CancelMode::Smart => handed_back(finish(&self.queue, pass, under)),
-            CancelMode::Simple => {
-                finish_at_once(&self.queue, pass, under);
-                None
-            }
+            CancelMode::Simple => handed_back_at_once(finish_at_once(&self.queue, pass, under)),
         }
     }
 }
@@ -110,5 +104,17 @@ pub(crate) fn handed_back(resumed: Resumed) -> Option<Under>
         Resumed::Left(_) => None,
         Resumed::Refused(_) => None,
         Resumed::Under(under) => Some(under),
+    }
+}
+
+// The same in simple mode.
+fn handed_back_at_once(ended: EndedAtOnce) -> Option<Under>
+    ensures { result ≡ Rattle.cqs_latch.specs.Waking.handed_back_at_once ended }
+{
+    match ended {
+        EndedAtOnce::Served(_) => None,
+        EndedAtOnce::Left(_) => None,
+        EndedAtOnce::Missed(_) => None,
+        EndedAtOnce::Under(under) => Some(under),
     }
 }

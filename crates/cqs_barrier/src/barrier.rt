@@ -3,8 +3,7 @@
 ghost use Rattle.std.specs.Prelude.{◌≡◌, ◌⊎◌, ◌<◌, [], ◌∷◌, true, false, IfOk, IsErrOf};
 ghost use mathlib.Core.Logic.{◌↔◌};
 ghost use Rattle.cqs_rule_laws.specs.Configured.{is_config};
-ghost use Rattle.cqs_rule.specs.Passes.{pass_view, passes_of, limit_of};
-ghost use Rattle.cqs_barrier.specs.Calls.{Rests, IsMine, parties_in};
+ghost use Rattle.cqs_rule.specs.Passes.{ample_of, pass_view, passes_of, limit_of};
 
 use crate::client::BarrierClient;
 use cqs_rule::{CancelMode, Carries, Config, MakeError, Pass, Queue, Unparked};
@@ -20,9 +19,13 @@ const MOST_PARTIES: u32 = 32;
 #[derive(Drop)]
 pub struct Barrier<T: Carries = ()> {
     pub(crate) queue: Queue<BarrierClient<T>>,
+    // All segments are made as the table opens, so no call needs a spare slot.
+    pub ghost ample_is: { ample_of queue ≡ true },
 }
 
 impl Barrier {
+    ghost use Rattle.cqs_barrier.specs.Calls.{Rests, IsMine, parties_in};
+
     /// A barrier at which none has arrived, and its first pass, which has number 0, has seen
     /// nothing, and holds all parties. There are from 1 to 32 of them.
     pub fn new(
@@ -48,6 +51,8 @@ impl Barrier {
 }
 
 impl Barrier<Unparked> {
+    ghost use Rattle.cqs_barrier.specs.Calls.{Rests, IsMine, parties_in};
+
     /// The same for callers who never park: each looks at its wait when it likes. Such a barrier
     /// wakes nobody, and so it may stand in a static library.
     pub fn unparked(
@@ -73,6 +78,8 @@ impl Barrier<Unparked> {
 }
 
 impl<T: Carries + Send> Barrier<T> {
+    ghost use Rattle.cqs_barrier.specs.Calls.{Rests, IsMine, parties_in};
+
     fn make(
         alloc: Global,
         parties: u32,
@@ -95,7 +102,7 @@ impl<T: Carries + Send> Barrier<T> {
             return Err(MakeError::BadConfig);
         }
         let client = BarrierClient::new(parties);
-        let (queue, pass) = Queue::new(alloc, config, CancelMode::Smart, client)?;
+        let (queue, pass) = Queue::ample(alloc, config, CancelMode::Smart, client)?;
         Ok((Barrier { queue }, pass))
     }
 

@@ -21,7 +21,7 @@ returns-in-Served-clause-ran g c =
     c.finish.ensures.belongs.live.legal (c.requires.belongs.alone c.args.pass.now.live.0)
     (c.finish.ensures.belongs.alone c.finish.new.pass.live.0)
     (subst (λ (z : ℕ × Resumed). Resumes barrier_object primitive_of most_passed_over t z.0 v z.1 w)
-    (λ i. (c.requires.payload i, c.in-Served.is i)) c.finish.ensures.resumed)
+    (λ i. (c.requires.payload i, c.in-Served.is i)) (c.finish.ensures.ample c.args.self.now.ample_is))
 
 pub returns-in-Left-clause-ran : goal.returns-in-Left-clause-ran
 returns-in-Left-clause-ran g c =
@@ -31,7 +31,7 @@ returns-in-Left-clause-ran g c =
     ran-left t c.args.left v w c.requires.further (c.requires.owes.owes.owed ∙ c.requires.payload)
     (owing-under c.args.under v c.requires.owes) c.in-Left.field-0
     (subst (λ (z : ℕ × Resumed). Resumes barrier_object primitive_of most_passed_over t z.0 v z.1 w)
-    (λ i. (c.requires.payload i, c.in-Left.is i)) c.finish.ensures.resumed)
+    (λ i. (c.requires.payload i, c.in-Left.is i)) (c.finish.ensures.ample c.args.self.now.ample_is))
 
 pub returns-in-Refused-clause-ran : goal.returns-in-Refused-clause-ran
 returns-in-Refused-clause-ran g c =
@@ -41,7 +41,7 @@ returns-in-Refused-clause-ran g c =
     ran-refused t c.args.left v w c.requires.further (c.requires.owes.owes.owed ∙ c.requires.payload)
     (owing-under c.args.under v c.requires.owes) c.in-Refused.field-0
     (subst (λ (z : ℕ × Resumed). Resumes barrier_object primitive_of most_passed_over t z.0 v z.1 w)
-    (λ i. (c.requires.payload i, c.in-Refused.is i)) c.finish.ensures.resumed)
+    (λ i. (c.requires.payload i, c.in-Refused.is i)) (c.finish.ensures.ample c.args.self.now.ample_is))
 
 pub returns-in-Under-clause-ran : goal.returns-in-Under-clause-ran
 returns-in-Under-clause-ran g c =
@@ -51,32 +51,32 @@ returns-in-Under-clause-ran g c =
     ran-under t c.args.left v w c.requires.further (c.requires.owes.owes.owed ∙ c.requires.payload)
     (owing-under c.args.under v c.requires.owes) c.in-Under.under
     (subst (λ (z : ℕ × Resumed). Resumes barrier_object primitive_of most_passed_over t z.0 v z.1 w)
-    (λ i. (c.requires.payload i, c.in-Under.is i)) c.finish.ensures.resumed)
+    (λ i. (c.requires.payload i, c.in-Under.is i)) (c.finish.ensures.ample c.args.self.now.ample_is))
 
 pub returns-in-Served-clause-grown : goal.returns-in-Served-clause-grown
 returns-in-Served-clause-grown g c =
     let v = pass_view c.args.pass.now in
     let w = pass_view c.finish.new.pass in
     finished-grown c.args.under v w (resumed.Served c.in-Served.field-0) c.requires.owes
-    (rw c.in-Served.is at c.finish.ensures.resumed)
+    (rw c.in-Served.is at (c.finish.ensures.ample c.args.self.now.ample_is))
 
 pub returns-in-Left-clause-grown : goal.returns-in-Left-clause-grown
 returns-in-Left-clause-grown g c =
     let v = pass_view c.args.pass.now in
     let w = pass_view c.finish.new.pass in
     finished-grown c.args.under v w (resumed.Left c.in-Left.field-0) c.requires.owes
-    (rw c.in-Left.is at c.finish.ensures.resumed)
+    (rw c.in-Left.is at (c.finish.ensures.ample c.args.self.now.ample_is))
 
 pub returns-in-Refused-clause-grown : goal.returns-in-Refused-clause-grown
 returns-in-Refused-clause-grown g c =
     let v = pass_view c.args.pass.now in
     let w = pass_view c.finish.new.pass in
     finished-grown c.args.under v w (resumed.Refused c.in-Refused.field-0) c.requires.owes
-    (rw c.in-Refused.is at c.finish.ensures.resumed)
+    (rw c.in-Refused.is at (c.finish.ensures.ample c.args.self.now.ample_is))
 
 pub returns-in-Under-clause-grown : goal.returns-in-Under-clause-grown
 returns-in-Under-clause-grown g c =
     let v = pass_view c.args.pass.now in
     let w = pass_view c.finish.new.pass in
     finished-grown c.args.under v w (resumed.Under c.in-Under.under) c.requires.owes
-    (rw c.in-Under.is at c.finish.ensures.resumed)
+    (rw c.in-Under.is at (c.finish.ensures.ample c.args.self.now.ample_is))

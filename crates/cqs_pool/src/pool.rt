@@ -3,11 +3,10 @@
 ghost use Rattle.std.specs.Prelude.{◌≡◌, ◌⊎◌, ◌+◌, ◌*◌, ◌/◌, ◌<◌, [], ◌∷◌, true, false, IfOk, IsErrOf};
 ghost use mathlib.Core.Logic.{◌↔◌};
 ghost use Rattle.cqs_rule_laws.specs.Configured.{is_config};
-ghost use Rattle.cqs_rule.specs.Passes.{pass_view, passes_of, limit_of};
+ghost use Rattle.cqs_rule.specs.Passes.{ample_of, pass_view, passes_of, limit_of};
 ghost use Rattle.cqs_rule_laws.specs.Views.{first_view};
 ghost use Rattle.cqs_rule_laws.specs.declared.config.CancelMode.TheVariants.{Smart};
 ghost use Rattle.cqs_rule_laws.specs.CallRule.{IsReady};
-ghost use Rattle.cqs_pool.specs.Calls.{Rests, IsMine, size_of};
 
 use crate::client::PoolClient;
 use cqs_rule::{CancelMode, Carries, Config, Kept, MakeError, Pass, Queue, Unparked};
@@ -24,9 +23,13 @@ const MOST_ELEMENTS: u32 = 4096;
 #[derive(Drop)]
 pub struct Pool<T: Carries = ()> {
     pub(crate) queue: Queue<PoolClient<T>>,
+    // All segments are made as the table opens, so no call needs a spare slot.
+    pub ghost ample_is: { ample_of queue ≡ true },
 }
 
 impl Pool {
+    ghost use Rattle.cqs_pool.specs.Calls.{Rests, IsMine, size_of};
+
     /// A pool of so many elements, all of them free, and its first pass, which has number 0 and has
     /// seen nothing. There are from 1 to 4,096 elements, and `slots` has room for their cells.
     pub fn new(alloc: Global, elements: u32, config: Config) -> Result<(Pool, PoolPass), MakeError>
@@ -49,6 +52,8 @@ impl Pool {
 }
 
 impl Pool<Unparked> {
+    ghost use Rattle.cqs_pool.specs.Calls.{Rests, IsMine, size_of};
+
     /// The same, of a pool whose callers never park, which wakes nobody.
     pub fn unparked(
         alloc: Global,
@@ -74,6 +79,8 @@ impl Pool<Unparked> {
 }
 
 impl<T: Send + Drop> Pool<Kept<T>> {
+    ghost use Rattle.cqs_pool.specs.Calls.{Rests, IsMine, size_of};
+
     /// The same, where each element carries a value in a slot of its own. The slots are empty yet:
     /// `fill_slot` of its queue fills them before any other call.
     pub fn with_slots(
@@ -102,6 +109,8 @@ impl<T: Send + Drop> Pool<Kept<T>> {
 }
 
 impl<T: Carries + Send> Pool<T> {
+    ghost use Rattle.cqs_pool.specs.Calls.{Rests, IsMine, size_of};
+
     fn make(
         alloc: Global,
         elements: u32,
@@ -131,7 +140,7 @@ impl<T: Carries + Send> Pool<T> {
             return Err(MakeError::BadConfig);
         }
         let client = PoolClient::new(elements);
-        let (queue, pass) = Queue::new(alloc, config, CancelMode::Smart, client)?;
+        let (queue, pass) = Queue::ample(alloc, config, CancelMode::Smart, client)?;
         Ok((Pool { queue }, pass))
     }
 

@@ -9,20 +9,21 @@ whole None = refl
 whole (Some k) = omega arith
 
 pub placed_by-requires : goal.placed_by-requires
-placed_by-requires g c = never-refused _ _ _ _ _ c.finish.result c.finish.ensures.resumed
+placed_by-requires g c = never-refused _ _ _ _ _ c.finish.result (c.finish.ensures.ample c.args.self.now.ample_is)
 
 pub returns-clause-called : goal.returns-clause-called
 returns-clause-called g c =
-    ends-rule _ _ _ _ _ _ (c.finish.result, c.placed_by.ensures, c.finish.ensures.resumed) c.requires.belongs.live.own
-    c.finish.ensures.belongs.live.legal
+    ends-rule _ _ _ _ _ _ (c.finish.result, c.placed_by.ensures, c.finish.ensures.ample c.args.self.now.ample_is)
+    c.requires.belongs.live.own c.finish.ensures.belongs.live.legal
 
 pub returns-clause-ends : goal.returns-clause-ends
 returns-clause-ends g c =
     ends-so _ _ _ 64 (under_ticket c.args.under) _ _ refl c.requires.further (whole (under_ticket c.args.under))
-    (c.finish.result, c.placed_by.ensures, c.finish.ensures.resumed)
+    (c.finish.result, c.placed_by.ensures, c.finish.ensures.ample c.args.self.now.ample_is)
 
 pub returns-clause-further : goal.returns-clause-further
-returns-clause-further g c = further-so _ c.finish.result _ c.placed_by.ensures c.finish.ensures.further
+returns-clause-further g c =
+    further-so _ c.finish.result _ c.placed_by.ensures (c.finish.ensures.further c.args.self.now.ample_is)
 
 pub returns-clause-alone : goal.returns-clause-alone
 returns-clause-alone g c = λ alone can.

@@ -13,22 +13,23 @@ put_element-number-requires-clause-value g c = λ low.
 pub returns-clause-handed : goal.returns-clause-handed
 returns-clause-handed g c =
     let on = (ends-called _ _ 63 _ _ _
-    (c.resume_from.result, c.placed_by.ensures, c.resume_from.ensures.resumed)).0 in
+    (c.resume_from.result, c.placed_by.ensures, c.resume_from.ensures.ample c.args.self.now.ample_is)).0 in
     gave-value _ _ _ _ _ c.put_element-number.ensures.given on.handed on.unlaid
 
 pub placed_by-requires : goal.placed_by-requires
-placed_by-requires g c = never-refused _ _ _ _ _ c.resume_from.result c.resume_from.ensures.resumed
+placed_by-requires g c =
+    never-refused _ _ _ _ _ c.resume_from.result (c.resume_from.ensures.ample c.args.self.now.ample_is)
 
 pub returns-clause-called : goal.returns-clause-called
 returns-clause-called g c =
     put-rule _ _ _ _ _ _ c.put_element-number.ensures.saw
-    (c.resume_from.result, c.placed_by.ensures, c.resume_from.ensures.resumed) c.requires.belongs.live.own
-    c.resume_from.ensures.belongs.live.legal
+    (c.resume_from.result, c.placed_by.ensures, c.resume_from.ensures.ample c.args.self.now.ample_is)
+    c.requires.belongs.live.own c.resume_from.ensures.belongs.live.legal
 
 pub returns-clause-ends : goal.returns-clause-ends
 returns-clause-ends g c =
     put-ends _ _ _ _ _ _ c.requires.ready c.put_element-number.ensures.saw
-    (c.resume_from.result, c.placed_by.ensures, c.resume_from.ensures.resumed)
+    (c.resume_from.result, c.placed_by.ensures, c.resume_from.ensures.ample c.args.self.now.ample_is)
 
 pub returns-clause-alone : goal.returns-clause-alone
 returns-clause-alone g c = λ alone.

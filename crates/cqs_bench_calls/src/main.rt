@@ -33,7 +33,7 @@ fn time_rounds(
         slots: 4,
     };
     let client = SemClient::new(1);
-    let Ok((queue, mut pass)) = Queue::new(rt.alloc(), config, CancelMode::Smart, client) else {
+    let Ok((queue, mut pass)) = Queue::ample(rt.alloc(), config, CancelMode::Smart, client) else {
         anyhow::bail!("no memory for the queue");
     };
     let start = Instant::now(rt)?;

@@ -3,7 +3,7 @@
 
 ghost use Rattle.std.specs.Prelude.{◌≡◌, ◌<◌, true, IfSome, IsTrue};
 ghost use Rattle.cqs_core.specs.declared.doings.Doing.TheVariants.{Idle};
-ghost use Rattle.cqs_rule.specs.Passes.{pass_view, limit_of, IsOf};
+ghost use Rattle.cqs_rule.specs.Passes.{ample_of, pass_view, limit_of, IsOf};
 ghost use Rattle.cqs_bench_calls.specs.Waits.{KeepsWaits, HasItsWait};
 
 use cqs_cancel::{Left, cancel};
@@ -20,6 +20,7 @@ pub const LIMIT: u64 = 1 << 20;
 #[inline(always)]
 fn acquire(queue: &Queue<SemClient>, pass: &mut Pass<SemClient>) -> Option<Wait>
     requires belongs { IsOf queue.now pass.old }
+    requires ample { ample_of queue.now ≡ true }
     requires idle { (pass_view pass.old).facts.doing ≡ Idle }
     requires may_draw { (pass_view pass.old).facts.may_draw ≡ true }
     ensures belongs { IsOf queue.now pass.new }
@@ -41,6 +42,7 @@ fn acquire(queue: &Queue<SemClient>, pass: &mut Pass<SemClient>) -> Option<Wait>
 #[inline(always)]
 fn release(queue: &Queue<SemClient>, pass: &mut Pass<SemClient>) -> bool
     requires belongs { IsOf queue.now pass.old }
+    requires ample { ample_of queue.now ≡ true }
     requires idle { (pass_view pass.old).facts.doing ≡ Idle }
     ensures belongs { IsOf queue.now pass.new }
     ensures idle { IsTrue result → (pass_view pass.new).facts.doing ≡ Idle }
@@ -61,6 +63,7 @@ fn release(queue: &Queue<SemClient>, pass: &mut Pass<SemClient>) -> bool
 // A permit is free: it is taken and given back. It answers whether rounds go on.
 fn free_round(queue: &Queue<SemClient>, pass: &mut Pass<SemClient>) -> bool
     requires belongs { IsOf queue.now pass.old }
+    requires ample { ample_of queue.now ≡ true }
     requires limit { limit_of queue.now ≡ 1048576 }
     requires idle { (pass_view pass.old).facts.doing ≡ Idle }
     ensures belongs { IsOf queue.now pass.new }
@@ -79,6 +82,7 @@ fn free_round(queue: &Queue<SemClient>, pass: &mut Pass<SemClient>) -> bool
 // answers whether rounds go on.
 fn pair_round(queue: &Queue<SemClient>, pass: &mut Pass<SemClient>) -> bool
     requires belongs { IsOf queue.now pass.old }
+    requires ample { ample_of queue.now ≡ true }
     requires limit { limit_of queue.now ≡ 1048576 }
     requires idle { (pass_view pass.old).facts.doing ≡ Idle }
     ensures belongs { IsOf queue.now pass.new }
@@ -102,6 +106,7 @@ fn pair_round(queue: &Queue<SemClient>, pass: &mut Pass<SemClient>) -> bool
 // rounds go on.
 fn leave_round(queue: &Queue<SemClient>, pass: &mut Pass<SemClient>) -> bool
     requires belongs { IsOf queue.now pass.old }
+    requires ample { ample_of queue.now ≡ true }
     requires limit { limit_of queue.now ≡ 1048576 }
     requires idle { (pass_view pass.old).facts.doing ≡ Idle }
     ensures belongs { IsOf queue.now pass.new }
@@ -123,6 +128,7 @@ fn leave_round(queue: &Queue<SemClient>, pass: &mut Pass<SemClient>) -> bool
 /// In each round a permit that is free is taken and given back.
 pub fn free_rounds(queue: &Queue<SemClient>, pass: &mut Pass<SemClient>, count: u64)
     requires belongs { IsOf queue.now pass.old }
+    requires ample { ample_of queue.now ≡ true }
     requires limit { limit_of queue.now ≡ 1048576 }
     requires idle { (pass_view pass.old).facts.doing ≡ Idle }
 {
@@ -137,6 +143,7 @@ pub fn free_rounds(queue: &Queue<SemClient>, pass: &mut Pass<SemClient>, count: 
 /// gives it back, and is served.
 pub fn pair_rounds(queue: &Queue<SemClient>, pass: &mut Pass<SemClient>, count: u64)
     requires belongs { IsOf queue.now pass.old }
+    requires ample { ample_of queue.now ≡ true }
     requires limit { limit_of queue.now ≡ 1048576 }
     requires idle { (pass_view pass.old).facts.doing ≡ Idle }
 {
@@ -151,6 +158,7 @@ pub fn pair_rounds(queue: &Queue<SemClient>, pass: &mut Pass<SemClient>, count: 
 /// leaves the line again.
 pub fn leave_rounds(queue: &Queue<SemClient>, pass: &mut Pass<SemClient>, count: u64)
     requires belongs { IsOf queue.now pass.old }
+    requires ample { ample_of queue.now ≡ true }
     requires limit { limit_of queue.now ≡ 1048576 }
     requires idle { (pass_view pass.old).facts.doing ≡ Idle }
 {

@@ -11,16 +11,16 @@ returns-then-not-is_below_zero-clause-waits c = record {
 
 pub returns-in-Under-clause-waits : goal.returns-in-Under-clause-waits
 returns-in-Under-clause-waits c = record {
-  each = λ wait h. keeps-resumed semaphore_object _ _ _ _ _ _ _ c.resume.ensures.resumed wait
+  each = λ wait h. keeps-resumed semaphore_object _ _ _ _ _ _ _ (c.resume.ensures.ample c.requires.ample) wait
       (keeps-step semaphore_object _ _ _ _ c.give_permit.ensures.saw.saw refl wait h);
 }
 
 pub returns-in-Served : goal.returns-in-Served
 returns-in-Served c = record {
   belongs = c.resume.ensures.belongs;
-  idle = λ _. idle-resumed semaphore_object _ _ _ _ _ _ _ c.resume.ensures.resumed c.in-Served.is;
+  idle = λ _. idle-resumed semaphore_object _ _ _ _ _ _ _ (c.resume.ensures.ample c.requires.ample) c.in-Served.is;
   waits = record {
-    each = λ wait h. keeps-resumed semaphore_object _ _ _ _ _ _ _ c.resume.ensures.resumed wait
+    each = λ wait h. keeps-resumed semaphore_object _ _ _ _ _ _ _ (c.resume.ensures.ample c.requires.ample) wait
         (keeps-step semaphore_object _ _ _ _ c.give_permit.ensures.saw.saw refl wait h);
   };
 }

@@ -3,7 +3,7 @@
 
 ghost use Rattle.std.specs.Prelude.{◌≡◌, ◌<◌, IfOk, IsTrue, true};
 ghost use Rattle.cqs_core.specs.declared.doings.Doing.TheVariants.{Door, Idle, Owes};
-ghost use Rattle.cqs_rule.specs.Passes.{pass_view, IsOf};
+ghost use Rattle.cqs_rule.specs.Passes.{ample_of, pass_view, IsOf};
 ghost use Rattle.cqs_rule.specs.Waits.{HasWait, place_of};
 ghost use Rattle.cqs_words.specs.State.{is_below_zero};
 
@@ -27,8 +27,9 @@ pub fn alone(alloc: Global) -> Result<(Queue<SemClient>, Pass<SemClient>), MakeE
     ensures belongs { IfOk result (λ made. IsOf made.0 made.1) }
     ensures idle { IfOk result (λ made. (pass_view made.1).facts.doing ≡ Idle) }
     ensures may_draw { IfOk result (λ made. (pass_view made.1).facts.may_draw ≡ true) }
+    ensures ample { IfOk result (λ made. ample_of made.0 ≡ true) }
 {
-    Queue::new(alloc, CONFIG, CancelMode::Smart, SemClient::new(1))
+    Queue::ample(alloc, CONFIG, CancelMode::Smart, SemClient::new(1))
 }
 
 /// Whether the pass holds so many permits, has so many waits, and owes a permit.
@@ -59,6 +60,7 @@ pub fn come(rt: &impl Abort, queue: &Queue<SemClient>, pass: &mut Pass<SemClient
 /// Comes to the door, and waits in line.
 pub fn wait(rt: &impl Abort, queue: &Queue<SemClient>, pass: &mut Pass<SemClient>) -> Wait
     requires belongs { IsOf queue.now pass.old }
+    requires ample { ample_of queue.now ≡ true }
     requires idle { (pass_view pass.old).facts.doing ≡ Idle }
     requires may_draw { (pass_view pass.old).facts.may_draw ≡ true }
     ensures belongs { IsOf queue.now pass.new }
@@ -79,13 +81,13 @@ pub fn wait(rt: &impl Abort, queue: &Queue<SemClient>, pass: &mut Pass<SemClient
 /// Waits in line, and gives the permit back, which is owed to the line now.
 pub fn owe(rt: &impl Abort, queue: &Queue<SemClient>, pass: &mut Pass<SemClient>)
     requires belongs { IsOf queue.now pass.old }
+    requires ample { ample_of queue.now ≡ true }
     requires idle { (pass_view pass.old).facts.doing ≡ Idle }
     requires may_draw { (pass_view pass.old).facts.may_draw ≡ true }
     ensures belongs { IsOf queue.now pass.new }
     ensures owes { (pass_view pass.new).facts.doing ≡ Owes }
     ensures payload { (pass_view pass.new).facts.has.payload ≡ 0 }
     ensures reached { (pass_view pass.new).facts.reached ≡ 0 }
-    ensures some { 0 < (pass_view pass.new).cells }
 {
     wait(rt, queue, pass);
     if !is_for_one(give_permit(queue, pass)) {
@@ -101,6 +103,7 @@ pub fn send(
     wait: Wait,
 ) -> Wait
     requires belongs { IsOf queue.now pass.old }
+    requires ample { ample_of queue.now ≡ true }
     requires idle { (pass_view pass.old).facts.doing ≡ Idle }
     requires holds { 0 < (pass_view pass.old).facts.has.held }
     requires waits { HasWait (pass_view pass.old) wait }

@@ -24,7 +24,7 @@ use std::test::Fail;
 #[test]
 fn tries_on_the_state(rt: HostRuntime) -> Result<(), Fail> {
     let client = SemClient::new(1);
-    let (queue, mut pass) = Queue::new(rt.alloc(), CONFIG, CancelMode::Smart, client)?;
+    let (queue, mut pass) = Queue::ample(rt.alloc(), CONFIG, CancelMode::Smart, client)?;
     let saw = load_state(&queue, &mut pass);
     assert!(rt; saw.word == 4_294_967_297);
     assert!(rt; try_take(&queue, &mut pass, saw).word == 4_294_967_297);
@@ -38,7 +38,7 @@ fn tries_on_the_state(rt: HostRuntime) -> Result<(), Fail> {
 #[test]
 fn single_steps_on_the_state(rt: HostRuntime) -> Result<(), Fail> {
     let client = SemClient::new(1);
-    let (queue, mut pass) = Queue::new(rt.alloc(), CONFIG, CancelMode::Smart, client)?;
+    let (queue, mut pass) = Queue::ample(rt.alloc(), CONFIG, CancelMode::Smart, client)?;
     assert!(rt; queue.or_word::<Silent>(&mut pass, 0, 0) == 4_294_967_297);
     let saw = load_state(&queue, &mut pass);
     assert!(rt; saw.word == 4_294_967_297);
@@ -54,7 +54,7 @@ fn single_steps_of_a_suspend(rt: HostRuntime) -> Result<(), Fail> {
     come(&rt, &queue, &mut pass);
     let number = queue.add_table::<Draws>(&mut pass, SUSPENDS_WORD, 1);
     assert!(rt; number == 0);
-    let Found::At(at) = find(&queue, &mut pass, number) else {
+    let Ok(Found::At(at)) = find(&queue, &mut pass, number) else {
         panic!(rt; "each cell has its place");
     };
     assert!(rt; take_value(&queue, &mut pass, at) == Err(CellState::Empty));
@@ -142,7 +142,7 @@ fn single_steps_of_a_resume(rt: HostRuntime) -> Result<(), Fail> {
     let number = queue.add_table::<Reaches>(&mut pass, RESUMES_WORD, 1);
     assert!(rt; number == 0);
     assert!(rt; (pass.owes(), pass.spares()) == (true, 0));
-    let Found::At(at) = find(&queue, &mut pass, number) else {
+    let Ok(Found::At(at)) = find(&queue, &mut pass, number) else {
         panic!(rt; "each cell has its place");
     };
     let Err(found) = leave_value(&queue, &mut pass, at, 0) else {

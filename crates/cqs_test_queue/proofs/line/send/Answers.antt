@@ -12,6 +12,6 @@ resume-requires-clause-owes g c lifetimes =
 -- neither the release nor the resume closes the wait
 pub returns-clause-waits : goal.returns-clause-waits
 returns-clause-waits g c =
-    let resumed = c.in-Served.ensures.resumed in
+    let resumed = c.in-Served.ensures.ample c.requires.ample in
     has-wait-called semaphore_object _ _ _ _ c.args.wait resumed.called (ap (λ (f : Facts). f.waits) resumed.facts_are)
     (keeps-step semaphore_object _ _ _ _ c.args.wait c.give_permit.ensures.saw.saw refl c.requires.waits)

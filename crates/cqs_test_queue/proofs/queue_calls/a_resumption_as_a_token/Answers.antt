@@ -10,5 +10,4 @@ spend_under-requires-clause-belongs g c =
     subst (λ p. IsOf c.in_ok-queue.queue p) (sym c.under_of-under.ensures.same) c.owe.ensures.belongs
 
 pub under_of-under-requires-clause-reached : goal.under_of-under-requires-clause-reached
-under_of-under-requires-clause-reached g c =
-    record { below = c.owe.ensures.some; drawn = sym c.owe.ensures.reached }
+under_of-under-requires-clause-reached g c = sym c.owe.ensures.reached

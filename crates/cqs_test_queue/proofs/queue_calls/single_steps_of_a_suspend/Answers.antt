@@ -4,7 +4,7 @@ use Rattle.cqs_test_queue.proofs.queue_calls.single_steps_of_a_suspend.Goals as 
 
 pub install-requires-clause-place : goal.install-requires-clause-place
 install-requires-clause-place g c =
-    known-still _ _ c.in-At.at
+    known-still _ _ c.in-Ok-At.at
     (took-on c.find.new.pass c.take_value.new.pass c.take_value.result _
     c.take_value.ensures.took c.take_value.ensures.missed)
-    c.in-At.ensures.finds.1
+    (rw c.in-Ok-At.field-0-is at c.in-Ok-At.ensures.finds).1

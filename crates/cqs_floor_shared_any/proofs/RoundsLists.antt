@@ -37,13 +37,27 @@ read-off P f [] each i y got = absurd (cc)
 read-off P f (x ∷ xs) each zero y got = let is : f x ≡ y = cc in subst P is (each 0 x refl)
 read-off P f (x ∷ xs) each (suc i) y got = read-off P f xs (λ j z there. each (suc j) z there) i y got
 
+-- what is read off the first, after one was written that is read the same
+abbrev first-of : {X Y : Type 0} → (X → Y) → Y → List X → Y
+first-of f d [] = d
+first-of f d (x ∷ xs) = f x
+
+first-kept : {X Y : Type 0} (f : X → Y) (d : Y) (xs : List X) (i : ℕ) (x y : X) → slice_get xs i ≡ Some x
+    → f y ≡ f x → first-of f d (set xs i y) ≡ first-of f d xs
+first-kept f d [] i x y there same = absurd (cc)
+first-kept f d (z ∷ xs) zero x y there same = let is : z ≡ x = cc in same ∙ ap f (sym is)
+first-kept f d (z ∷ xs) (suc i) x y there same = refl
+
+crew-first : (rounds : List SharedRound) → crew_in rounds ≡ first-of crew_at (crew_in []) rounds
+crew-first [] = refl
+crew-first (r ∷ rounds) = refl
+
 -- what the passes have in common after one call
 pub crew-kept : (rounds : List SharedRound) (i : ℕ) (r s : SharedRound) → slice_get rounds i ≡ Some r
     → crew_at s ≡ crew_at r → crew_in (set rounds i s) ≡ crew_in rounds
-crew-kept [] i r s there same = absurd (cc)
-crew-kept (x ∷ rounds) zero r s there same =
-    let is : x ≡ r = cc in same ∙ ap crew_at (sym is)
-crew-kept (x ∷ rounds) (suc i) r s there same = refl
+crew-kept rounds i r s there same =
+    crew-first (set rounds i s)
+    ∙ (first-kept crew_at (crew_in []) rounds i r s there same ∙ sym (crew-first rounds))
 
 -- two lists as long as each other, of which the same is read off at each place
 pub map-same : {X Y Z : Type 0} (f : X → Z) (g : Y → Z) (xs : List X) (ys : List Y) → length xs ≡ length ys

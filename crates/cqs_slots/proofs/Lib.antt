@@ -13,3 +13,4 @@ pub mod Writes
 pub mod Loads
 pub mod Opens
 pub mod Joined
+pub mod Unsettled

@@ -1,12 +1,13 @@
 -- The laws of slots: what each step on their words makes of the segments, what each load tells, and
 -- that a segment leaves no sooner than all its cells are settled.
-use Rattle.std.specs.Prelude.{◌≡◌, ◌≢◌, ℕ, ◌+◌, ◌*◌, ◌^◌, ◌<◌, ◌≤◌, Bool, true, false, List, [], ◌∷◌, ◌++◌, length, slice_index, slice_set}
+use Rattle.std.specs.Prelude.{◌≡◌, ◌≢◌, ℕ, ◌+◌, ◌*◌, ◌/◌, ◌^◌, ◌<◌, ◌≤◌, Bool, true, false, List, [], ◌∷◌, ◌++◌, length, slice_index, slice_set}
 use Rattle.cqs_core.specs.Parts.{Has}
 use Rattle.cqs_words.specs.Cell.{index_in}
 use Rattle.cqs_words.specs.Head.{head_word}
 use Rattle.cqs_words.specs.Segment.{segment_word}
 use Rattle.cqs_slots.specs.declared.seen.Seen.{Seen}
 use Rattle.cqs_slots.specs.Layout.{tail_place, head_place, count_place, slot_cell, empty_word}
+use Rattle.cqs_slots.specs.Lists.{IsDistinct}
 use Rattle.cqs_slots.specs.Slots.{Segments, free, spare, fresh, live, IsHome, IsSegment, changed, IsLater}
 use Rattle.cqs_slots.specs.Shown.{Shows, AreSound, AreCells, AreCounted, Becomes}
 use Rattle.cqs_slots.specs.Steps.{with_slot, with_tail, with_counted}
@@ -114,6 +115,15 @@ UnsettledCellsStand =
     (n : ℕ) (t : Segments) (settled : ℕ → Bool) (duties : ℕ → ℕ) (s x j : ℕ) → AreSound n t
     → AreCounted t settled duties → IsHome t.homes s x → j < 32 → settled (32 * s + j) ≡ false
     → IsSegment (t.slots x) s
+
+-- Of the cells of the segments that are made, and of the next one, few aren't settled: those of the
+-- segments that stand, one in each slot, and the 32 of the next.
+abbrev pub UnsettledCellsAreFew : Type 0
+UnsettledCellsAreFew =
+    (n : ℕ) (t : Segments) (settled : ℕ → Bool) (duties : ℕ → ℕ) (cells : List ℕ) → AreSound n t
+    → AreCounted t settled duties → IsDistinct cells
+    → ((k : ℕ) → Has k cells → (settled k ≡ false) × (k / 32 ≤ t.tail + 1))
+    → length cells ≤ 32 * n + 32
 
 -- What is found where a cell of a made segment stood is that cell's word, or that of a later
 -- number. So an exchange that expects a word of this number changes no cell of a later segment.

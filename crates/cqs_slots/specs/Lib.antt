@@ -1,4 +1,5 @@
 pub mod Layout
+pub mod Lists
 pub mod Slots
 pub mod Shown
 pub mod Told

@@ -2,7 +2,7 @@
 //!
 //! Each function does nothing: a law is proved where the contract of a function says it.
 
-ghost use Rattle.cqs_slots.specs.Laws.{CellsAreReset, CellsAreWritten, CellsOfLeftSegmentsAreSettled, ClaimedHeadsAreLit, CountsAreReset, CountsTell, DutiesAreDone, FirstSegmentsAreSound, FoundWordsAreLater, FreeSlotsAreClaimed, FullSegmentsLeave, HeadsTell, OpeningWordsShow, ResetsBegin, ResetSparesBecomeTheTail, SettledCellsAreDuties, SparesAreGivenBack, TailsTell, UnsettledCellsStand, WordsBeforeShowNothing};
+ghost use Rattle.cqs_slots.specs.Laws.{CellsAreReset, CellsAreWritten, CellsOfLeftSegmentsAreSettled, ClaimedHeadsAreLit, CountsAreReset, CountsTell, DutiesAreDone, FirstSegmentsAreSound, FoundWordsAreLater, FreeSlotsAreClaimed, FullSegmentsLeave, HeadsTell, OpeningWordsShow, ResetsBegin, ResetSparesBecomeTheTail, SettledCellsAreDuties, SparesAreGivenBack, TailsTell, UnsettledCellsAreFew, UnsettledCellsStand, WordsBeforeShowNothing};
 
 /// Slots open with some segments made, each in the slot of its number, and no cell settled.
 pub fn slots_open()
@@ -54,6 +54,12 @@ pub fn full_segments_leave()
 pub fn segments_leave_settled()
     ensures left { CellsOfLeftSegmentsAreSettled }
     ensures stands { UnsettledCellsStand }
+{}
+
+/// A cell that isn't settled stands in one of the slots, or in the segment after the last: so these
+/// are few, however many numbers were drawn.
+pub fn unsettled_cells_are_few()
+    ensures { UnsettledCellsAreFew }
 {}
 
 /// A place that is used again shows no word of an earlier number.

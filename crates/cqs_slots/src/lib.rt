@@ -35,5 +35,6 @@ pub use laws::{
     cells_are_written, claimed_heads_are_lit, found_words_are_later, free_slots_are_claimed,
     full_segments_leave, loads_tell, reset_spares_become_the_tail, segments_leave_settled,
     settled_cells_are_counted, slots_open, spares_are_given_back, spares_are_reset,
+    unsettled_cells_are_few,
 };
 pub use seen::Seen;

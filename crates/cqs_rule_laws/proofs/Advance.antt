@@ -27,6 +27,7 @@ use Rattle.cqs_rule_laws.proofs.Duties.{counted-set}
 use Rattle.cqs_rule_laws.proofs.ToRetire.{Leaves, leave-set}
 use Rattle.cqs_slots.proofs.Loads.{sees-same}
 use Rattle.cqs_rule_laws.specs.Ample.{IsAmple}
+use Rattle.cqs_rule_laws.specs.Configured.{longest_line}
 use Rattle.cqs_rule_laws.specs.Segments.{KnowsSegments}
 use Rattle.cqs_rule_laws.proofs.Staying.{OthersStay}
 use Rattle.cqs_rule_laws.proofs.Segments.{knows-later}
@@ -36,7 +37,7 @@ use Rattle.cqs_rule_laws.proofs.Shelves.{Keeps, shelf-set}
 use Rattle.cqs_rule_laws.specs.Inside.{IsInside}
 use Rattle.cqs_rule_laws.specs.Object.{Object, Primitive}
 use Rattle.cqs_rule_laws.specs.Saw.{Saw, IsLive}
-use Rattle.cqs_rule_laws.proofs.Lists.{set_there, one_there, set_all, total_set, two_of, nothing_more, longer, has_left, has_right, part_more, unnamed, few_below, length_without}
+use Rattle.cqs_rule_laws.proofs.Lists.{set_there, one_there, set_all, total_set, two_of, nothing_more, longer, has_left, has_right, part_more, unnamed, length_without}
 
 -- what stays of a pass that rests, and of a second pass
 pub rests-on : (c d : Hidden) (n : ℕ) → ((facts : Facts) → Stands c n facts → Stands d n facts) → Rests c n → Rests d n
@@ -100,13 +101,14 @@ slotted v facts seen handed crew alone drawn out laid =
 
 -- a view's numbers are those of cells, where the table has so many
 pub is-inside : {E S : Type 0} (w : View E S) (cells : ℕ) → w.cells ≡ cells → number_at w.facts.doing < cells
-    → ((n : ℕ) → Has n w.facts.waits → n < cells) → IsDistinct w.facts.waits → w.facts.has.payload < 2 ^ 20
+    → ((n : ℕ) → Has n w.facts.waits → n < cells) → IsDistinct w.facts.waits
+    → length w.facts.waits < longest_line → w.facts.has.payload < 2 ^ 20
     → (IsAmple w → w.cells ≤ 32 * length w.segments.homes) → IsInside w
-is-inside w cells are inside waits once owed made = record {
+is-inside w cells are inside waits once few owed made = record {
   number = subst (λ z. number_at w.facts.doing < z) (sym are) inside;
   waits = λ n h. subst (λ z. n < z) (sym are) (waits n h);
   once = λ n h. length_without n w.facts.waits once h;
-  few = subst (λ z. length w.facts.waits ≤ z) (sym are) (few_below cells w.facts.waits once waits);
+  few = few;
   payload = owed;
   made = made;
 }
@@ -269,6 +271,7 @@ module _ {E S : Type 0} (object : Object E) (primitive : Primitive E S) (passes 
         settled = t.settles;
         finals = t.finals;
         all_settled = t.over;
+        suits = r.suits;
         counted = counted-set (λ (x : View E S). x.facts.duties) r.segments t.now r.settled t.settles s.views id v w
             here
             t.counts r.counted;
@@ -386,9 +389,9 @@ module _ {E S : Type 0} (object : Object E) (primitive : Primitive E S) (passes 
       → facts.has.held < 2 ^ 32 → facts.has.held ≤ object.most primitive.opening
       → object.knows primitive.opening facts.has
       → number_at facts.doing < cells_of → ((n : ℕ) → Has n facts.waits → n < cells_of)
-      → IsDistinct facts.waits → facts.has.payload < 2 ^ 20
+      → IsDistinct facts.waits → length facts.waits < longest_line → facts.has.payload < 2 ^ 20
       → IsLive object (grown v facts (r.log ++ es) r.handed)
-  live s r id v es facts here alive legal silent fits most known inside waits once owed =
+  live s r id v es facts here alive legal silent fits most known inside waits once short owed =
       let k = r.each_view id v here alive in
       let mine : Has v.number (all_own v) = has_left v.number v.own v.others k.own in
       let low : v.number < r.made = k.below v.number mine in
@@ -401,6 +404,6 @@ module _ {E S : Type 0} (object : Object E) (primitive : Primitive E S) (passes 
         held = fits;
         few = subst (λ z. facts.has.held ≤ object.most z) (sym k.opening_is) most;
         known = subst (λ z. object.knows z facts.has) (sym k.opening_is) known;
-        inside = is-inside (grown v facts (r.log ++ es) r.handed) cells_of k.cells_are inside waits once owed
+        inside = is-inside (grown v facts (r.log ++ es) r.handed) cells_of k.cells_are inside waits once short owed
             (r.each_segment id v here).made;
       }

@@ -27,6 +27,7 @@ use Rattle.cqs_rule_laws.specs.Object.{Object, Primitive}
 use Rattle.cqs_rule_laws.specs.declared.view.Has.{Has as OwnHas}
 use Rattle.cqs_rule_laws.specs.Crew.{met_by}
 use Rattle.cqs_rule_laws.proofs.Words.{this-word, client-below}
+use Rattle.cqs_rule_laws.proofs.Lines.{waits-short}
 use Rattle.cqs_rule_laws.proofs.Lists.{set_there, one_there, set_all, total_set, one_of, two_of, has_append, has_left, has_right}
 use Rattle.cqs_rule_laws.proofs.Advance.{rests-on, stands-spares, spent-set, is-inside}
 use Rattle.cqs_rule_laws.proofs.Shelves.{keeps-same, shelf-set, shelf-live, shelf-joined}
@@ -95,6 +96,7 @@ module _ {E S : Type 0} (object : Object E) (primitive : Primitive E S) (passes 
         settled = r.settled;
         finals = r.finals;
         all_settled = r.all_settled;
+        suits = r.suits;
         counted = counted-joined (λ (x : View E S). x.facts.duties) r.segments r.settled s.views id other v u w spent
             here
             at-other (λ e. apart (sym e)) refl refl r.counted;
@@ -321,6 +323,7 @@ module _ {E S : Type 0} (object : Object E) (primitive : Primitive E S) (passes 
           settled = r.settled;
           finals = r.finals;
           all_settled = r.all_settled;
+          suits = r.suits;
           counted = counted-kept (λ (x : View E S). x.facts.duties) r.segments r.settled s.views id v w here refl
               r.counted;
           to_leave = leave-kept r.segments s.views id v w here refl r.to_leave;
@@ -443,7 +446,8 @@ module _ {E S : Type 0} (object : Object E) (primitive : Primitive E S) (passes 
                 (inside-of passes limit primitive.values r.hidden v.number v.facts.doing r.room
                 (client.sound r.hidden (client_words s.words) r.log r.handed r.shown) k.stands.doing)
                 (λ j h. let drawn = (k.stands.waits j h).drawn in let g = r.room.ground in omega arith)
-                k.stands.once k.payload_fits (r.each_segment id v here).made;
+                k.stands.once (waits-short object primitive passes limit s r id v here (omega arith)) k.payload_fits
+                (r.each_segment id v here).made;
           },
           refl,
         ),

@@ -163,6 +163,7 @@ module _ {E S : Type 0} (object : Object E) (primitive : Primitive E S) (passes 
               settled = r.settled;
               finals = r.finals;
               all_settled = r.all_settled;
+              suits = r.suits;
               counted = counted-kept (λ (x : View E S). x.facts.duties) r.segments r.settled s.views id v w
                   here refl r.counted;
               to_leave = leave-kept r.segments s.views id v w here refl r.to_leave;
@@ -416,6 +417,7 @@ module _ {E S : Type 0} (object : Object E) (primitive : Primitive E S) (passes 
         settled = r.settled;
         finals = r.finals;
         all_settled = r.all_settled;
+        suits = r.suits;
         counted = counted-more (λ (x : View E S). x.facts.duties) r.segments r.settled views right refl
             (counted-kept (λ (x : View E S). x.facts.duties) r.segments r.settled s.views id v left here refl
             r.counted);

@@ -1,6 +1,6 @@
 -- Lists of views, lists of numbers, and the parts of a history.
-pub use Rattle.cqs_slots.proofs.Lists.{prefix-then, has_append, has_left, has_right}
-use Rattle.std.proofs.Common.{◌≡◌, ◌≢◌, ◌⊎◌, ℕ, zero, suc, ◌+◌, ◌≤◌, ◌<◌, Bool, true, false, List, [], ◌∷◌, ◌++◌, length, set, sym, refl, ap, ◌∙◌, subst, ⊎_elim, inl, inr, arith, append_assoc, Some, slice_get, get_or, cond, eq-eqb, ne_eqb, if◌then◌else◌}
+pub use Rattle.cqs_slots.proofs.Lists.{prefix-then, has_append, has_left, has_right, has_without, without_has, distinct_without, distinct_append, length_without, few_below}
+use Rattle.std.proofs.Common.{◌≡◌, ◌≢◌, ◌⊎◌, ℕ, zero, suc, ◌+◌, ◌≤◌, ◌<◌, Bool, true, false, List, [], ◌∷◌, ◌++◌, length, set, sym, refl, ap, ◌∙◌, subst, ⊎_elim, inl, inr, arith, append_assoc, Some, slice_get, get_or, cond}
 use Rattle.std.specs.Prelude.{count_by}
 use Rattle.std.proofs.lemmas.List.{append-nil}
 use Rattle.std.proofs.lemmas.List.Elements.{filter-append}
@@ -9,9 +9,7 @@ use Rattle.cqs_core.proofs.Places.{get-below}
 use mathlib.Core.Option.{some, some-ne-none, some-injective}
 use lib.ListN.{get_elem?}
 use Rattle.atomic_table.proofs.Lists.{at_set}
-use mathlib.Core.Logic.{dite}
-use native.Mathlib.Decide.{ℕ_discrete}
-use Rattle.cqs_rule_laws.specs.Lists.{Has, IsDistinct, without, total, IsPrefix, part}
+use Rattle.cqs_rule_laws.specs.Lists.{total, IsPrefix, part}
 
 module _ {A : Type 0} where
   pub set_there : (l : List A) (i : ℕ) (a b : A) → get_elem? l i ≡ some a → get_elem? (set l i b) i ≡ some b
@@ -90,90 +88,6 @@ module _ {A : Type 0} where
   get_index [] i a d e = absurd (cc)
   get_index (x ∷ xs) zero a d e = cc
   get_index (x ∷ xs) (suc i) a d e = get_index xs i a d e
-
--- what is in a list without k is in the list, and isn't k
-pub has_without : (n k : ℕ) (xs : List ℕ) → Has n (without k xs) → (n ≢ k) × Has n xs
-has_without n k [] h = absurd h
-has_without n k (x ∷ xs) h = dite (ℕ_discrete x k)
-    (λ (q : x ≡ k).
-    let later : Has n (without k xs) =
-    subst (λ b. Has n (if b then without k xs else x ∷ without k xs)) (eq-eqb x k q) h in
-    let t = has_without n k xs later in (t.0, inr t.1))
-    (λ (a : x ≢ k). ⊎_elim
-    (λ (e : n ≡ x). ((λ (q : n ≡ k). a (sym e ∙ q)), inl e))
-    (λ (g : Has n (without k xs)). let t = has_without n k xs g in (t.0, inr t.1))
-    (subst (λ b. Has n (if b then without k xs else x ∷ without k xs)) (ne_eqb x k a) h))
-
-pub without_has : (n k : ℕ) (xs : List ℕ) → n ≢ k → Has n xs → Has n (without k xs)
-without_has n k [] apart h = absurd h
-without_has n k (x ∷ xs) apart h = dite (ℕ_discrete x k)
-    (λ (q : x ≡ k).
-    subst (λ b. Has n (if b then without k xs else x ∷ without k xs)) (sym (eq-eqb x k q))
-    (⊎_elim (λ (e : n ≡ x). absurd (apart (e ∙ q))) (λ g. without_has n k xs apart g) h))
-    (λ (a : x ≢ k).
-    subst (λ b. Has n (if b then without k xs else x ∷ without k xs)) (sym (ne_eqb x k a))
-    (⊎_elim (λ (e : n ≡ x). inl e) (λ g. inr (without_has n k xs apart g)) h))
-
-pub without_none : (k : ℕ) (xs : List ℕ) → (Has k xs → ⊥) → without k xs ≡ xs
-without_none k [] none = refl
-without_none k (x ∷ xs) none =
-    let apart : x ≢ k = λ q. none (inl (sym q)) in
-    ap (λ b. if b then without k xs else x ∷ without k xs) (ne_eqb x k apart)
-    ∙ ap (λ l. x ∷ l) (without_none k xs (λ h. none (inr h)))
-
-pub distinct_without : (k : ℕ) (xs : List ℕ) → IsDistinct xs → IsDistinct (without k xs)
-distinct_without k [] d = tt
-distinct_without k (x ∷ xs) d = dite (ℕ_discrete x k)
-    (λ (q : x ≡ k).
-    subst (λ b. IsDistinct (if b then without k xs else x ∷ without k xs)) (sym (eq-eqb x k q))
-    (distinct_without k xs d.1))
-    (λ (a : x ≢ k).
-    subst (λ b. IsDistinct (if b then without k xs else x ∷ without k xs)) (sym (ne_eqb x k a))
-    ((λ h. d.0 (has_without x k xs h).1), distinct_without k xs d.1))
-
-pub distinct_append : (k : ℕ) (xs : List ℕ) → IsDistinct xs → (Has k xs → ⊥) → IsDistinct (xs ++ k ∷ [])
-distinct_append k [] d none = ((λ h. h), tt)
-distinct_append k (x ∷ xs) d none = (
-  (λ h. ⊎_elim d.0 (λ q. none (⊎_elim (λ (e : x ≡ k). inl (sym e)) (λ z. absurd z) q)) (has_append x xs (k ∷ []) h)),
-  distinct_append k xs d.1 (λ h. none (inr h)),
-)
-
--- where k is in a list without doubles, the list without k is one shorter
-pub length_without : (k : ℕ) (xs : List ℕ) → IsDistinct xs → Has k xs → length (without k xs) + 1 ≡ length xs
-length_without k [] d h = absurd h
-length_without k (x ∷ xs) d h = dite (ℕ_discrete x k)
-    (λ (q : x ≡ k).
-    let rest : without k xs ≡ xs = without_none k xs (subst (λ z. Has z xs → ⊥) q d.0) in
-    let is : without k (x ∷ xs) ≡ xs = ap (λ b. if b then without k xs else x ∷ without k xs) (eq-eqb x k q) ∙ rest in
-    let long = ap length is in omega arith)
-    (λ (a : x ≢ k).
-    let has : Has k xs = ⊎_elim (λ (e : k ≡ x). absurd (a (sym e))) (λ z. z) h in
-    let less = length_without k xs d.1 has in
-    let is : without k (x ∷ xs) ≡ x ∷ without k xs =
-    ap (λ b. if b then without k xs else x ∷ without k xs) (ne_eqb x k a) in
-    let long : length (without k (x ∷ xs)) ≡ length (without k xs) + 1 = ap length is ∙ omega arith in omega arith)
-
-length_without-least : (k : ℕ) (xs : List ℕ) → IsDistinct xs → length xs ≤ length (without k xs) + 1
-length_without-least k [] d = omega arith
-length_without-least k (x ∷ xs) d = dite (ℕ_discrete x k)
-    (λ (q : x ≡ k).
-    let rest : without k xs ≡ xs = without_none k xs (subst (λ z. Has z xs → ⊥) q d.0) in
-    let is : without k (x ∷ xs) ≡ xs = ap (λ b. if b then without k xs else x ∷ without k xs) (eq-eqb x k q) ∙ rest in
-    let long = ap length is in omega arith)
-    (λ (a : x ≢ k).
-    let less = length_without-least k xs d.1 in
-    let is : without k (x ∷ xs) ≡ x ∷ without k xs =
-    ap (λ b. if b then without k xs else x ∷ without k xs) (ne_eqb x k a) in
-    let long : length (without k (x ∷ xs)) ≡ length (without k xs) + 1 = ap length is ∙ omega arith in omega arith)
-
--- so many numbers are below m at most
-pub few_below : (m : ℕ) (xs : List ℕ) → IsDistinct xs → ((n : ℕ) → Has n xs → n < m) → length xs ≤ m
-few_below zero [] d below = omega arith
-few_below zero (x ∷ xs) d below = let none = below x (inl refl) in absurd (omega arith)
-few_below (suc m) xs d below =
-    let rest = few_below m (without m xs) (distinct_without m xs d)
-    (λ n h. let t = has_without n m xs h in let low = below n t.1 in let apart = t.0 in omega arith) in
-    let least = length_without-least m xs d in omega arith
 
 -- a pass that might draw may no more
 pub fewer_draw : (may : List Bool) (p : ℕ) → slice_get may p ≡ Some true

@@ -30,10 +30,10 @@ use Rattle.cqs_rule_laws.proofs.CellPlaces.{behind-client, client-inside}
 use Rattle.cqs_rule_laws.proofs.Advance.{Turned}
 use Rattle.cqs_rule_laws.proofs.Drawing.{draws-word}
 use Rattle.cqs_rule_laws.proofs.Shelves.{never-open}
-use Rattle.cqs_rule_laws.proofs.Lines.{line-flat}
+use Rattle.cqs_rule_laws.proofs.Lines.{line-short}
 use Rattle.cqs_rule_laws.proofs.Others.{others-moved, door-keeps}
 use Rattle.cqs_slots.proofs.Loads.{later-same}
-use Rattle.cqs_rule_laws.proofs.Tells.{steps, suspends-low, resumes-low}
+use Rattle.cqs_rule_laws.proofs.Tells.{steps}
 use Rattle.cqs_rule_laws.proofs.Words.{crew-else, counters-else, cells-else, idle-else, client-at, client-set}
 
 -- two of the client's words at one place are one
@@ -116,11 +116,9 @@ module _ {C E S : Type 0} (object : Object E) (primitive : C → Primitive E S) 
       λ j low.
       let inside = client-inside j r.slots low in
       let long = r.cells.shows.wide in omega arith in
-      let drawn = suspends-low passes limit (primitive x).values c r.room in
-      let short : IsShort c.queue = record {
-        line = line-flat c.queue (client.sound c words r.log r.handed r.shown) drawn
-            (resumes-low passes limit (primitive x).values c r.room);
-        drawn = drawn;
+      let short : IsShort (primitive x).most_limit c.queue = record {
+        line = line-short object (primitive x) passes limit s r client;
+        drawn = let g = r.room.ground in let p = r.room.few_passes in let l = r.suits in omega arith;
       } in
       let t : Turned object (primitive x) passes limit s r v word (f n) d es after = record {
         crew = crew-else s.words word (f n) (omega arith);

@@ -11,7 +11,7 @@ use Rattle.cqs_core.specs.declared.cells.CoreState.TheVariants as state
 use Rattle.cqs_core.specs.declared.doings.Doing.TheVariants as doing
 use Rattle.cqs_core.proofs.Places.{get-past}
 use Rattle.cqs_rule_laws.specs.declared.config.Config.{Config}
-use Rattle.cqs_rule_laws.specs.Configured.{is_config}
+use Rattle.cqs_rule_laws.specs.Configured.{is_config, largest_limit}
 use Rattle.cqs_rule_laws.specs.declared.view.View.{View}
 use Rattle.cqs_rule_laws.specs.Client.{IsClient}
 use Rattle.cqs_rule_laws.specs.Hidden.{Hidden, state_in, state_at}
@@ -131,9 +131,10 @@ module _ {E S : Type 0} (object : Object E) (primitive : Primitive E S) (passes 
       → IsOpening (words_for slots) made primitive.values primitive.words words
       → 0 < made → made ≤ slots → slots ≤ 65536 → primitive.values ≤ 32 * made
       → (AreEnough cells_of passes slots → cells_of ≤ 32 * made)
-      → 0 < passes → passes ≤ 32 → 0 < limit → limit ≤ 1048576 → primitive.values ≤ 4096
+      → 0 < passes → passes ≤ 32 → 0 < limit → limit ≤ largest_limit
+      → limit ≤ primitive.most_limit → primitive.values ≤ 4096
       → Ruled object primitive passes limit (opening words (replicate count None) first)
-  opens client words count o any_made fit most covers room any few any_limit low_limit few_values = record {
+  opens client words count o any_made fit most covers room any few any_limit low_limit suits few_values = record {
     hidden = h;
     log = [];
     handed = [];
@@ -162,6 +163,7 @@ module _ {E S : Type 0} (object : Object E) (primitive : Primitive E S) (passes 
     settled = λ k. false;
     finals = λ k is. absurd (cc);
     all_settled = λ k o. over-none k (cases_lt k values) o;
+    suits = suits;
     counted = record { counts = λ s. none-in s };
     to_leave = record { leave = λ s all low. absurd (omega arith) };
     spares = record {
@@ -378,7 +380,7 @@ pub record InBounds (c : Config) : Type 0 where
   pub some_passes : 0 < c.passes
   pub few_passes : c.passes ≤ 32
   pub some_limit : 0 < c.limit
-  pub low_limit : c.limit ≤ 1048576
+  pub low_limit : c.limit ≤ largest_limit
 
 pub config-bounds : (c : Config) → is_config c ≡ true → InBounds c
 config-bounds c good =
@@ -389,7 +391,7 @@ config-bounds c good =
     let a : 1 ≤ c.passes = leb-true _ _ passes.0 in
     let b : c.passes ≤ 32 = leb-true _ _ passes.1 in
     let d : 1 ≤ c.limit = leb-true _ _ limit.0 in
-    let e : c.limit ≤ 1048576 = leb-true _ _ limit.1 in
+    let e : c.limit ≤ largest_limit = leb-true _ _ limit.1 in
     record { some_passes = omega arith; few_passes = b; some_limit = omega arith; low_limit = e }
 
 -- slots stay enough, as they are counted otherwise
@@ -401,6 +403,7 @@ pub opens-by : {E S : Type 0} (object : Object E) (primitive : Primitive E S) �
     → (config : Config) (passes slots made : ℕ) (words items : List ℕ) (count : ℕ)
     → is_config config ≡ true → passes ≡ config.passes → words ≡ items
     → IsOpening (words_for slots) made primitive.values primitive.words items
+    → config.limit ≤ primitive.most_limit
     → primitive.values ≤ 4096 → 0 < made → made ≤ slots → slots ≤ 65536 → primitive.values ≤ 32 * made
     → (AreEnough (cell_count config.passes config.limit primitive.values) config.passes slots
     → cell_count config.passes config.limit primitive.values ≤ 32 * made)
@@ -408,8 +411,8 @@ pub opens-by : {E S : Type 0} (object : Object E) (primitive : Primitive E S) �
     (opening words (replicate count None)
     (first_view passes config.limit (cell_count passes config.limit primitive.values) slots made primitive.opening
     primitive.held))
-opens-by object primitive client config passes slots made words items count good is_passes is_words o few any_made fit
-    most covers room =
+opens-by object primitive client config passes slots made words items count good is_passes is_words o suits few any_made
+    fit most covers room =
     let b = config-bounds config good in
     let any : 0 < passes = let h = b.some_passes in omega arith in
     let low : passes ≤ 32 = let h = b.few_passes in omega arith in
@@ -418,7 +421,7 @@ opens-by object primitive client config passes slots made words items count good
     opens object primitive passes config.limit slots made client words count whole any_made fit most covers
     (λ ample. let all = room (subst (λ n. AreEnough (cell_count n config.limit primitive.values) n slots) is_passes
     ample) in omega arith)
-    any low b.some_limit b.low_limit few
+    any low b.some_limit b.low_limit suits few
 
 pub first-live-by : {E S : Type 0} (object : Object E) (primitive : Primitive E S) → IsClient object primitive
     → (config : Config) (slots made : ℕ) → is_config config ≡ true

@@ -134,6 +134,7 @@ module _ {E S : Type 0} (object : Object E) (primitive : Primitive E S) (passes 
         settled = r.settled;
         finals = r.finals;
         all_settled = r.all_settled;
+        suits = r.suits;
         counted = counted-set (λ (x : View E S). x.facts.duties) r.segments u r.settled r.settled s.views id v w here
             (λ q. let e = t.counts q in omega arith) r.counted;
         to_leave = leave-set r.segments u s.views id v w here t.later.outs t.leaves r.to_leave;

@@ -17,6 +17,8 @@ use Rattle.cqs_rule_laws.specs.Ruled.{Ruled, HasRoom, number_at, cell_count}
 use Rattle.cqs_rule_laws.specs.Client.{IsClient}
 use Rattle.cqs_rule_laws.specs.Saw.{Saw, IsLive}
 use Rattle.cqs_rule_laws.proofs.Advance.{Turned, advance, saw, live}
+use Rattle.cqs_rule_laws.proofs.Lines.{waits-short}
+use Rattle.cqs_rule_laws.proofs.Lists.{set_there}
 
 -- the number at which a pass works is that of a cell
 pub inside-of : (passes limit values : ℕ) (c : Hidden) (p : ℕ) (d : Doing) → HasRoom passes limit values c
@@ -41,11 +43,13 @@ inside-of passes limit values c p d room sound is = by-doing d (sound.passes.at 
     by-doing doing.Owes own = some-cell
 
 -- no counter is near a number that none draws
-pub suspends-low : (passes limit values : ℕ) (c : Hidden) → HasRoom passes limit values c → c.queue.suspends < 4194304
+pub suspends-low : (passes limit values : ℕ) (c : Hidden) → HasRoom passes limit values c
+    → c.queue.suspends < 68719476768
 suspends-low passes limit values c room =
     let g = room.ground in let l = room.low_limit in let p = room.few_passes in omega arith
 
-pub resumes-low : (passes limit values : ℕ) (c : Hidden) → HasRoom passes limit values c → c.queue.resumes < 4194304
+pub resumes-low : (passes limit values : ℕ) (c : Hidden) → HasRoom passes limit values c
+    → c.queue.resumes < 68719480865
 resumes-low passes limit values c room =
     let r = room.resumes in let l = room.low_limit in let p = room.few_passes in let v = room.few_values in omega arith
 
@@ -67,9 +71,12 @@ module _ {E S : Type 0} (object : Object E) (primitive : Primitive E S) (passes 
   steps s r id me i x d es facts here one t =
       let k = r.each_view id me.0 here (omega arith) in
       let words = client_words (slice_set s.words i x) in
-      let log = r.log ++ es in (
-        advance object primitive passes limit s r id me.1 me.0 i x d es facts me.0.crew me.0.alone me.0.drawn here one
-            k.crew (λ a. (k.alone a).0) (λ a. let was = (k.alone a).4 in let more = t.draws in omega arith) t,
+      let log = r.log ++ es in
+      let w = grown me.0 facts log r.handed in
+      let after : R (stepped s i x id me.1 w keeps) =
+      advance object primitive passes limit s r id me.1 me.0 i x d es facts me.0.crew me.0.alone me.0.drawn here one
+      k.crew (λ a. (k.alone a).0) (λ a. let was = (k.alone a).4 in let more = t.draws in omega arith) t in (
+        after,
         saw object primitive passes limit s r id me.0 es facts here one,
         live object primitive passes limit s r id me.0 es facts here (omega arith)
             (client.legal_shown d words log r.handed t.shown) t.silent
@@ -80,5 +87,7 @@ module _ {E S : Type 0} (object : Object E) (primitive : Primitive E S) (passes 
             (client.sound d words log r.handed t.shown) t.self.doing)
             (λ n h. let drawn = (t.self.waits n h).drawn in let g = t.room.ground in omega arith)
             t.self.once
+            (waits-short object primitive passes limit (stepped s i x id me.1 w keeps) after id w
+            (set_there s.views id me.0 w here) (omega arith))
             t.payload_fits,
       )

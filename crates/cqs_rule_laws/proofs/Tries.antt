@@ -9,6 +9,7 @@ use Rattle.cqs_rule_laws.specs.declared.view.Facts.{Facts}
 use Rattle.cqs_rule_laws.specs.Crew.{IsBetween, IsSole, IsDoubled, Counted, Tried, CameWith}
 use Rattle.cqs_rule_laws.specs.Hidden.{Hidden}
 use Rattle.cqs_rule_laws.specs.Inside.{IsInside}
+use Rattle.cqs_rule_laws.specs.Configured.{longest_line}
 use Rattle.cqs_rule_laws.specs.Lists.{Has, part}
 use Rattle.cqs_rule_laws.specs.Ruled.{Stands, Rests}
 use Rattle.cqs_rule_laws.specs.Facts.{is_owing, owes_any}
@@ -43,7 +44,7 @@ module _ {E S : Type 0} where
         number = subst (λ f. Rattle.cqs_rule_laws.specs.Ruled.number_at f.doing < w.cells) (sym is) some;
         waits = λ k h. absurd (subst (λ f. Has k f.waits) is h);
         once = λ k h. absurd (subst (λ f. Has k f.waits) is h);
-        few = subst (λ (f : Facts). length f.waits ≤ w.cells) (sym is) (omega arith);
+        few = subst (λ (f : Facts). length f.waits < longest_line) (sym is) (omega arith);
         payload = subst (λ (f : Facts). f.has.payload < 2 ^ 20) (sym is) (omega arith);
         made = i.made;
       }

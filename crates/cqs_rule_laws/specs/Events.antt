@@ -11,6 +11,7 @@ use Rattle.cqs_rule_laws.specs.declared.view.Facts.{Facts}
 use Rattle.cqs_rule_laws.specs.declared.view.Has.{Has}
 use Rattle.cqs_rule_laws.specs.declared.view.Opening.{Opening}
 use Rattle.cqs_rule_laws.specs.declared.view.Sighting.TheVariants.{Word}
+use Rattle.cqs_rule_laws.specs.Configured.{longest_line}
 use Rattle.cqs_rule_laws.specs.Facts.{is_owing}
 use Rattle.cqs_rule_laws.specs.Hidden.{Hidden, stands_at}
 use Rattle.cqs_rule_laws.specs.Layout.{client_place}
@@ -124,14 +125,11 @@ word_plus by n = (n + raise by) % 2 ^ 64
 abbrev pub word_after_exchange : ℕ → ℕ → ℕ → ℕ
 word_after_exchange saw new n = either (where_found saw n) new n
 
--- the waits in line are fewer than this at any time, and so are the numbers that were drawn
-abbrev pub longest_line : ℕ
-longest_line = 4194304
-
--- Few wait in line, and few numbers were drawn to suspend at, whenever a step is made.
-pub record IsShort (q : Queue) : Type 0 where
+-- Few wait in line, and no more numbers were drawn to suspend at than the limit and the passes
+-- allow, whenever a step is made.
+pub record IsShort (limit : ℕ) (q : Queue) : Type 0 where
   pub line : length (line q) < longest_line
-  pub drawn : q.suspends < longest_line
+  pub drawn : q.suspends < limit + 32
 
 -- A step that shows the event leaves its pass the slots that it has laid something into.
 abbrev pub SlotsStay : {E S : Type 0} → Primitive E S → ℕ → Event E → (ℕ → Bool) → View E S → Type 0
@@ -150,7 +148,7 @@ pub record Moves {E S : Type 0} (object : Object E) (primitive : Primitive E S) 
   pub step : (c : Hidden) (words : List ℕ) (log : List E) (handed : List (ℕ × S))
       → primitive.shows c words log handed
       → slice_get c.queue.doing p ≡ Some facts.doing → slice_get c.has p ≡ Some facts.has
-      → IsShort c.queue → slice_index words i < 2 ^ 64
+      → IsShort primitive.most_limit c.queue → slice_index words i < 2 ^ 64
       → primitive.shows
       (stands_at c p (event.doing (moment primitive.opening p facts made (slice_index words i)))
       (has_then event (moment primitive.opening p facts made (slice_index words i))))

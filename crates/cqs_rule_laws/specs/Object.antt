@@ -28,6 +28,8 @@ pub record Primitive (E S : Type 0) : Type 1 where
   pub manner : Manner
   -- the opening values of its words
   pub words : List ℕ
+  -- the largest limit of a queue that it is made with
+  pub most_limit : ℕ
   -- how many values stand in cells at first, and what the first pass holds
   pub values : ℕ
   pub held : ℕ

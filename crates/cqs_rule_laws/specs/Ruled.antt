@@ -19,6 +19,7 @@ use Rattle.cqs_rule_laws.specs.declared.view.Facts.{Facts}
 use Rattle.cqs_rule_laws.specs.declared.view.Glimpse.{Glimpse}
 use Rattle.cqs_core.specs.QueueCells.{rank, IsInstalled, IsBare}
 use Rattle.cqs_rule_laws.specs.declared.view.Opening.{Opening}
+use Rattle.cqs_rule_laws.specs.Configured.{largest_limit}
 use Rattle.cqs_rule_laws.specs.Object.{Object, Primitive}
 use Rattle.cqs_rule_laws.specs.Layout.{crew_place, suspends_place, resumes_place, client_words, IsIdle}
 use Rattle.cqs_rule_laws.specs.Drawn.{KnowsDrawn}
@@ -82,7 +83,7 @@ pub record IdleWords (words : List ℕ) : Type 0 where
 -- who may draw and the numbers drawn are together fewer than the limit and the passes
 pub record HasRoom (passes limit values : ℕ) (c : Hidden) : Type 0 where
   pub few_passes : passes ≤ 32
-  pub low_limit : limit ≤ 1048576
+  pub low_limit : limit ≤ largest_limit
   pub few_values : values ≤ 4096
   pub doing : length c.queue.doing ≡ passes
   pub has : length c.has ≡ passes
@@ -255,6 +256,7 @@ module _ {E S : Type 0} (object : Object E) where
     pub spares : SparesHold slots segments s.views
     pub idle_words : IdleWords s.words
     pub room : HasRoom passes limit primitive.values hidden
+    pub suits : limit ≤ primitive.most_limit
     pub door : DoorMayDraw hidden
     pub shown : primitive.shows hidden (client_words s.words) log handed
     pub each_view : (j : ℕ) (v : View E S) → get_elem? s.views j ≡ some v → 0 < v.weight

@@ -1,12 +1,12 @@
 //! What a queue is made with, and why it may not be made.
 
 ghost use Rattle.std.specs.Prelude.{◌≡◌};
-ghost use Rattle.cqs_rule_laws.specs.Configured.{is_config};
+ghost use Rattle.cqs_rule_laws.specs.Configured.{is_config, is_small_config};
 ghost use Rattle.cqs_rule_laws.specs.declared.config.MakeError.TheVariants.{Memory};
 
 use std::alloc::AllocError;
 
-/// How a queue is made. In range are `passes` from 1 to 32, `limit` from 1 to 1,048,576, and
+/// How a queue is made. In range are `passes` from 1 to 32, `limit` from 1 to 68,719,476,736, and
 /// `slots` from `2 * passes + 2` to 65,535.
 #[derive(Clone, Copy, Debug, PartialEq, Eq)]
 pub struct Config {
@@ -25,9 +25,17 @@ impl Config {
         ensures { result ≡ is_config self.now }
     {
         let passes = 1 <= self.passes && self.passes <= 32;
-        let limit = 1 <= self.limit && self.limit <= 1_048_576;
+        let limit = 1 <= self.limit && self.limit <= 68_719_476_736;
         let slots = 2 * u64::from(self.passes) + 2 <= u64::from(self.slots) && self.slots <= 65_535;
         passes && limit && slots
+    }
+
+    /// Whether a queue may be made with it that has a slot for each segment that can be wanted: the
+    /// limit is at most 1,048,576 then.
+    pub fn is_small(&self) -> bool
+        ensures { result ≡ is_small_config self.now }
+    {
+        self.is_in_range() && self.limit <= 1_048_576
     }
 }
 

@@ -159,6 +159,7 @@ pub fn open_table<C: ClientWords>(
     AllocError,
 >
     requires good { is_config config.now ≡ true }
+    requires suits { config.now.limit ≤ (C.primitive client).most_limit }
     requires few { (C.primitive client).values ≤ 4096 }
     requires some { 0 < made }
     requires fit { made ≤ slots }

@@ -6,7 +6,7 @@ use Rattle.cqs_core.specs.QueueState.{Queue}
 use Rattle.cqs_core.specs.SemaphoreTable.{Shape, lowest}
 use Rattle.cqs_core.specs.SemaphoreShown.{IsCore, short_of}
 use Rattle.cqs_core.proofs.FirstOfWay.{ending-within}
-use Rattle.cqs_rule_laws.specs.Events.{longest_line}
+use Rattle.cqs_rule_laws.specs.Configured.{longest_line}
 use Rattle.cqs_rule_laws.proofs.Lines.{picked-short}
 
 pub state-above-line : (s : Shape) → IsCore s → length (line s.queue) < longest_line → lowest <ℤ s.state

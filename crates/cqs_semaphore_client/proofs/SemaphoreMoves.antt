@@ -21,6 +21,7 @@ use Rattle.cqs_core.proofs.Bounds.{free-small}
 use Rattle.cqs_core.proofs.Places.{set-same}
 use Rattle.cqs_rule_laws.specs.declared.view.Facts.{Facts}
 use Rattle.cqs_rule_laws.specs.declared.view.Has.{Has}
+use Rattle.cqs_rule_laws.specs.Configured.{largest_limit}
 use Rattle.cqs_rule_laws.specs.Events.{Event as Shows, Moves, SlotsStay, IsShort, word_plus, word_after_exchange, in_any_case, where_found}
 use Rattle.cqs_rule_laws.specs.Facts.{is_owing}
 use Rattle.cqs_rule_laws.specs.Hidden.{Hidden, stands_at}
@@ -44,7 +45,7 @@ use Rattle.cqs_semaphore_client.proofs.StateWords.{above-lowest, found-loaded, f
 module _ (permits p : ℕ) (facts : Facts) (c : Hidden) (words : List ℕ) (log : List Entry)
     (core : IsCore (core_shown permits c words log))
     (does : slice_get c.queue.doing p ≡ Some facts.doing) (has : slice_get c.has p ≡ Some facts.has)
-    (short : IsShort c.queue) where
+    (short : IsShort largest_limit c.queue) where
   abbrev s : Shape
   s = core_shown permits c words log
 

@@ -11,6 +11,7 @@ use Rattle.cqs_core.specs.SemaphoreShown.{IsCore}
 use Rattle.cqs_core.specs.SemaphoreSteps.{step_entries}
 use Rattle.cqs_rule_laws.specs.declared.view.Has.{Has}
 use Rattle.cqs_rule_laws.specs.declared.config.CancelMode.TheVariants.{Smart}
+use Rattle.cqs_rule_laws.specs.Configured.{largest_limit}
 use Rattle.cqs_rule_laws.specs.Events.{Moment, Event}
 use Rattle.cqs_rule_laws.specs.Held.{held_of}
 use Rattle.cqs_rule_laws.specs.Hidden.{Hidden, Gains}
@@ -61,6 +62,7 @@ semaphore_primitive permits = record {
   shows = shows_core permits;
   manner = semaphore_manner;
   words = state_word (pos permits) ∷ [];
+  most_limit = largest_limit;
   values = 0;
   held = 0;
   opens = opens_one permits;

@@ -14,7 +14,8 @@ vacant-requires g c =
     let C = g.C.ClientWords in
     opens-by C.object (C.primitive c.args.client) (g.met.C.ClientWords.keeps c.args.client) c.args.config.now
     c.from-passes.result c.from-slots.result c.from-made.result _ _ _ c.requires.good c.from-passes.ensures
-    c.as_slice.ensures.value c.in_ok-words.ensures c.requires.few (omega (arith, c.from-made.ensures, c.requires.some))
+    c.as_slice.ensures.value c.in_ok-words.ensures c.requires.suits c.requires.few
+    (omega (arith, c.from-made.ensures, c.requires.some))
     (omega (arith, c.from-made.ensures, c.from-slots.ensures, c.requires.fit))
     (omega (arith, c.from-slots.ensures, c.requires.few_slots))
     (omega (arith, c.from-made.ensures, c.requires.values))
@@ -51,7 +52,8 @@ returns-clause-seat g c =
     let keeps = g.met.C.ClientWords.keeps x in
     let config = c.args.config.now in
     let rule = opens-by C.object p keeps config c.from-passes.result c.from-slots.result c.from-made.result _ _ 0
-    c.requires.good c.from-passes.ensures c.as_slice.ensures.value c.in_ok-words.ensures c.requires.few
+    c.requires.good c.from-passes.ensures c.as_slice.ensures.value c.in_ok-words.ensures c.requires.suits
+    c.requires.few
     (omega (arith, c.from-made.ensures, c.requires.some))
     (omega (arith, c.from-made.ensures, c.from-slots.ensures, c.requires.fit))
     (omega (arith, c.from-slots.ensures, c.requires.few_slots))

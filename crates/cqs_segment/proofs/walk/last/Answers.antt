@@ -1,4 +1,4 @@
-use Rattle.std.proofs.Common.{◌≡◌, ◌<◌, ◌^◌, ℕ, arith}
+use Rattle.std.proofs.Common.{arith}
 use Rattle.cqs_segment.proofs.walk.last.Goals as goal
 
 pub returns-clause-near : goal.returns-clause-near

@@ -10,46 +10,20 @@ use Rattle.cqs_rule_laws.specs.Slots.{LaysNone}
 use Rattle.cqs_rule_laws.specs.Views.{IsSame}
 use Rattle.cqs_rule_laws.proofs.Calls.{same-here}
 use Rattle.cqs_segment.specs.Walks.{Left}
+use Rattle.cqs_rule.proofs.Claiming as claims
 use Rattle.cqs_find.specs.Finds.{facts_searched, longest_search, Searched}
 
-module _ {E S : Type 0} where
-  -- the pass stays as it was but for what it has seen of the segments, and the heads that it found
-  pub same-left : (v w : View E S) (heads : List (ℕ × ℕ)) (spares : List Spare)
-      → LeftBy heads spares v.facts.duties v w → IsSame v w
-  same-left v w heads spares left = subst (IsSame v) (sym left.is) (record {
-    number = refl;
-    weight = refl;
-    own = refl;
-    crew = refl;
-    alone = refl;
-    drawn = refl;
-    limit = refl;
-    cells = refl;
-    slots = refl;
-    passes = refl;
-    opening = refl;
-    segments = left.segments;
-  })
-
 module _ {E S : Type 0} (object : Object E) where
-  -- steps on segments
+  -- steps on segments, as steps of a search
   pub saw-left : (v w : View E S) (heads : List (ℕ × ℕ)) (spares : List Spare)
       → LeftBy heads spares v.facts.duties v w → Saw object v (facts_searched [] heads spares v.facts) [] w
-  saw-left v w heads spares left = record {
-    between = [];
-    seen = ap (λ (z : View E S). z.seen) left.is ∙ sym (append-nil (v.seen ++ []) ∙ append-nil v.seen);
-    silent = λ n h. refl;
-    facts_are = ap (λ (z : View E S). z.facts) left.is
-        ∙ (λ i. record v.facts {
-          spare_slots = spares;
-          heads = v.facts.heads ++ heads;
-          found = sym (append-nil v.facts.found) i;
-        });
-    same = same-left v w heads spares left;
-    handed = ([], ap (λ (z : View E S). z.handed) left.is ∙ sym (append-nil v.handed));
-    unlaid = subst (λ (z : View E S). LaysNone v.laid z.laid) (sym left.is) (λ j bare. bare);
-    sole = λ a. refl;
-  }
+  saw-left v w heads spares left = subst (λ f. Saw object v f [] w)
+      (λ i. record v.facts {
+        spare_slots = spares;
+        heads = v.facts.heads ++ heads;
+        found = sym (append-nil v.facts.found) i;
+      })
+      (claims.saw-left object v w heads spares v.facts.duties left)
 
   -- a search that found no more heads than there are slots
   pub searched-few : (k : ℕ) (v w : View E S) (heads : List (ℕ × ℕ)) → v.slots ≤ longest_search

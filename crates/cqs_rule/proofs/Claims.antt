@@ -5,6 +5,8 @@ use Rattle.cqs_rule_laws.specs.declared.client.ClientWords.{Ghosts}
 use Rattle.cqs_rule_laws.specs.declared.view.Spare.{Spare}
 use Rattle.cqs_rule_laws.specs.declared.view.View.{View}
 use Rattle.cqs_rule_laws.specs.Ample.{IsAmple}
+use Rattle.cqs_rule_laws.specs.Lists.{IsPrefix}
+use Rattle.cqs_rule_laws.proofs.Lists.{prefix-then}
 use Rattle.cqs_rule_laws.specs.SegmentSteps.{claimed_slot, LeftBy}
 use Rattle.cqs_segment.specs.Slots.{FoundTaken, SawAllTaken}
 use Rattle.cqs_segment.specs.Walks.{Left}
@@ -45,14 +47,26 @@ module _ {E S : Type 0} where
       let more = v.facts.spare_slots ++ claimed_slot x ∷ [] in
       ap length (spares-left v w q.0 more v.facts.duties q.1) ∙ length-append v.facts.spare_slots (claimed_slot x ∷ [])
 
+  -- and those that were spare before are so still
+  pub keeps-spares : (u v w : View E S) (x : ℕ) → IsPrefix u.facts.spare_slots v.facts.spare_slots
+      → Left (v.facts.spare_slots ++ claimed_slot x ∷ []) v.facts.duties v w
+      → IsPrefix u.facts.spare_slots w.facts.spare_slots
+  keeps-spares u v w x p q =
+      let more : List Spare = v.facts.spare_slots ++ claimed_slot x ∷ [] in
+      prefix-then u.facts.spare_slots v.facts.spare_slots w.facts.spare_slots p
+      (claimed_slot x ∷ [], spares-left v w q.0 more v.facts.duties q.1)
+
   -- no slot was free
   pub crowds : (most : ℕ) (u v w : View E S) (slots : ℕ) → slots ≡ v.slots → (IsAmple u → ⊥)
       → length u.facts.spare_slots < most → length v.facts.spare_slots < most
+      → IsPrefix u.facts.spare_slots v.facts.spare_slots
       → Left v.facts.spare_slots u.facts.duties u v → SawAllTaken slots v w → Crowds most u w
-  crowds most u v w slots all scarce few short p saw = record {
+  crowds most u v w slots all scarce few short kept p saw = record {
     few = few;
     short = subst (λ l. length l < most)
         (sym (spares-left v w saw.heads v.facts.spare_slots v.facts.duties saw.left)) short;
+    kept = subst (λ l. IsPrefix u.facts.spare_slots l)
+        (sym (spares-left v w saw.heads v.facts.spare_slots v.facts.duties saw.left)) kept;
     heads = p.0 ++ saw.heads;
     spares = v.facts.spare_slots;
     left = left-then u v w p.0 saw.heads v.facts.spare_slots v.facts.spare_slots u.facts.duties u.facts.duties p.1

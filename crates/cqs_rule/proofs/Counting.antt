@@ -387,7 +387,7 @@ pub record Keeping {E S : Type 0} (w : View E S) (items : List (ℕ × Option S)
   pub ticket_is : IsTicketOf w.facts.doing ticket
   pub slots_are : words_for w.slots ≡ words
   pub inside : IsInside w
-  pub few_cells : w.cells < 2 ^ 31
+  pub few_cells : w.cells < 2 ^ 37
 
 module _ {S E : Type 0} where
   -- and what it keeps once its cell is counted
@@ -412,7 +412,7 @@ module _ {S E : Type 0} where
         ticket_is = λ j e. k.ticket_is j (sym (ap (λ (z : View E S). z.facts.doing) is) ∙ e);
         slots_are = ap (λ (z : View E S). words_for z.slots) is ∙ k.slots_are;
         inside = inside-left u w c.heads u.facts.spare_slots [] c.left k.inside;
-        few_cells = subst (λ n. n < 2147483648) (sym (ap (λ (z : View E S). z.cells) is)) k.few_cells;
+        few_cells = subst (λ n. n < 137438953472) (sym (ap (λ (z : View E S). z.cells) is)) k.few_cells;
       }
 
 module _ {C S E : Type 0} {g : Ghosts C S E} where

@@ -81,7 +81,7 @@ module _ {C S E : Type 0} {g : Ghosts C S E} where
         ticket_is = λ k e. p.ticket_is k (sym (ap (λ (f : Facts). f.doing) are) ∙ e);
         slots_are = ap words_for m.slots ∙ (p.slots_are ∙ table);
         inside = live.inside;
-        few_cells = subst (λ k. k < 2147483648) (sym m.cells) p.few_cells;
+        few_cells = subst (λ k. k < 137438953472) (sym m.cells) p.few_cells;
       }
 
   -- what both held fits

@@ -60,7 +60,7 @@ module _ {C S E : Type 0} {g : Ghosts C S E} where
         ticket_is = λ k e. p.ticket_is k (sym (ap (λ (f : Facts). f.doing) l.facts) ∙ e);
         slots_are = ap words_for l.slots ∙ (p.slots_are ∙ ap (λ (t : TableId). t.words) (sym table));
         inside = l.alive.inside;
-        few_cells = subst (λ n. n < 2147483648) (sym l.cells) p.few_cells;
+        few_cells = subst (λ n. n < 137438953472) (sym l.cells) p.few_cells;
       }
 
   -- the new one
@@ -84,5 +84,5 @@ module _ {C S E : Type 0} {g : Ghosts C S E} where
         ticket_is = λ k e. let idle = ap (λ (f : Facts). f.doing) facts in absurd (cc);
         slots_are = ap words_for b.slots ∙ (p.slots_are ∙ ap (λ (t : TableId). t.words) (sym table));
         inside = b.alive.inside;
-        few_cells = subst (λ n. n < 2147483648) (sym b.cells) p.few_cells;
+        few_cells = subst (λ n. n < 137438953472) (sym b.cells) p.few_cells;
       }

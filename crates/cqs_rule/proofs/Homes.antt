@@ -1,5 +1,5 @@
 -- What a pass keeps of segments stays so.
-use Rattle.std.proofs.Common.{◌≡◌, ℕ, ◌+◌, ◌*◌, ◌/◌, ◌%◌, ◌<◌, ◌≤◌, List, Some, None, ap, subst, sym, arith}
+use Rattle.std.proofs.Common.{◌≡◌, ℕ, ◌+◌, ◌/◌, ◌%◌, ◌≤◌, List, Some, None, ap, subst, sym}
 use Rattle.cqs_rule_laws.specs.declared.view.Spare.{Spare}
 use Rattle.cqs_rule_laws.specs.declared.view.View.{View}
 use Rattle.cqs_rule_laws.specs.Placed.{GoesOn, KnowsFirst, KnowsPlace, place_at}

@@ -18,3 +18,4 @@ pub mod Segments
 pub mod Counting
 pub mod Retired
 pub mod Spared
+pub mod Claiming

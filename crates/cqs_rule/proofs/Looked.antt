@@ -48,5 +48,5 @@ module _ {C S E : Type 0} {g : Ghosts C S E} where
         ticket_is = λ k e. p.ticket_is k (sym (ap (λ (f : Facts). f.doing) are) ∙ e);
         slots_are = ap words_for same.slots ∙ (p.slots_are ∙ ap (λ (t : TableId). t.words) (sym table));
         inside = inside;
-        few_cells = subst (λ n. n < 2147483648) (sym same.cells) p.few_cells;
+        few_cells = subst (λ n. n < 137438953472) (sym same.cells) p.few_cells;
       }

@@ -37,7 +37,7 @@ module _ {S E : Type 0} where
     ticket_is : IsTicketOf w.facts.doing ticket;
     slots_are : words_for w.slots ≡ words;
     inside : IsInside w;
-    few_cells : w.cells < 2 ^ 31;
+    few_cells : w.cells < 2 ^ 37;
   }
 
 module _ {C S E : Type 0} {g : Ghosts C S E} where
@@ -80,5 +80,5 @@ module _ {C S E : Type 0} {g : Ghosts C S E} where
         ticket_is = λ k e. p.ticket_is k (tickets k (sym (ap (λ (f : Facts). f.doing) are) ∙ e));
         slots_are = ap words_for same.slots ∙ (p.slots_are ∙ table);
         inside = live.inside;
-        few_cells = subst (λ k. k < 2147483648) (sym same.cells) p.few_cells;
+        few_cells = subst (λ k. k < 137438953472) (sym same.cells) p.few_cells;
       }

@@ -164,7 +164,7 @@ module _ {C S E : Type 0} {g : Ghosts C S E} where
         slots_are = ap (λ (z : View E S). words_for z.slots) is ∙
             (p.slots_are ∙ ap (λ (u : TableId). u.words) (sym table));
         inside = inside-left (pass_view p) w heads spares (pass_view p).facts.duties left p.inside;
-        few_cells = subst (λ k. k < 2147483648) (sym (ap (λ (z : View E S). z.cells) is)) p.few_cells;
+        few_cells = subst (λ k. k < 137438953472) (sym (ap (λ (z : View E S). z.cells) is)) p.few_cells;
       }
 
   -- and that it is one of its queue

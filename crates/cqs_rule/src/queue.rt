@@ -85,5 +85,5 @@ pub struct Pass<C: ClientWords> {
     pub ghost ticket_is: { IsTicketOf seat.me.0.facts.doing ticket },
     pub ghost slots_are: { words_for seat.me.0.slots ≡ seat.table_id.words },
     pub ghost inside: { IsInside seat.me.0 },
-    pub ghost few_cells: { seat.me.0.cells < 2 ^ 31 },
+    pub ghost few_cells: { seat.me.0.cells < 2 ^ 37 },
 }

@@ -39,7 +39,7 @@ impl<C: ClientWords> Queue<C> {
                 requires table { seat.table_id ≡ self.now.table.shared.table_id }
                 requires claimer { IsClaimer self.now spares seat.me.0 }
                 requires drawn { HasDrawn seat.me.0 index }
-                requires small { index < 2 ^ 31 }
+                requires small { index < 2 ^ 37 }
                 requires scarce { IsAmple seat.me.0 → ⊥ }
                 ensures table { result.0.table_id ≡ seat.table_id }
                 ensures claimer { IsClaimer self.entry.now result.1.0 result.0.me.0 }
@@ -71,7 +71,7 @@ impl<C: ClientWords> Queue<C> {
         requires table { seat.table_id ≡ self.now.table.shared.table_id }
         requires claimer { IsClaimer self.now spares seat.me.0 }
         requires drawn { HasDrawn seat.me.0 index }
-        requires small { index < 2 ^ 31 }
+        requires small { index < 2 ^ 37 }
         requires scarce { IsAmple seat.me.0 → ⊥ }
         ensures table { result.0.table_id ≡ seat.table_id }
         ensures claimer { IsClaimer self.now result.1.0 result.0.me.0 }

@@ -2,7 +2,7 @@
 
 ghost use Rattle.std.specs.Prelude.{◌≡◌, ◌/◌, ◌<◌, ◌≤◌, false, true, length, IfOk, IsErrOf};
 ghost use mathlib.Core.Logic.{◌↔◌};
-ghost use Rattle.cqs_rule_laws.specs.Configured.{is_config};
+ghost use Rattle.cqs_rule_laws.specs.Configured.{is_config, is_small_config, largest_ample};
 ghost use Rattle.cqs_rule_laws.specs.Manner.{mode_for};
 ghost use Rattle.cqs_rule.specs.Passes.{pass_view, ample_of, client_of, passes_of, limit_of, mode_of, made_at_first, slots_of, IsOf};
 ghost use Rattle.cqs_rule_laws.specs.Ruled.{cell_count};
@@ -26,6 +26,8 @@ impl<C: ClientWords> Queue<C> {
         client: C,
     ) -> Result<(Queue<C>, Pass<C>), MakeError>
         requires few { (C.primitive client).values ≤ 4096 }
+        requires suits { is_config config ≡ true
+            → config.limit ≤ (C.primitive client).most_limit }
         requires fit { is_config config ≡ true → (C.primitive client).values / 32 < config.slots }
         requires mode { (C.primitive client).opening.mode ≡ mode }
         requires manner { mode_for (C.primitive client).manner.leaving ≡ mode }
@@ -84,7 +86,7 @@ impl<C: ClientWords> Queue<C> {
     }
 
     /// The same with slots for all segments that can be wanted, where the configuration has fewer:
-    /// no call needs a spare slot then.
+    /// no call needs a spare slot then. The limit is at most 1,048,576.
     pub fn ample(
         alloc: Global,
         config: Config,
@@ -92,9 +94,10 @@ impl<C: ClientWords> Queue<C> {
         client: C,
     ) -> Result<(Queue<C>, Pass<C>), MakeError>
         requires few { (C.primitive client).values ≤ 4096 }
+        requires suits { largest_ample ≤ (C.primitive client).most_limit }
         requires mode { (C.primitive client).opening.mode ≡ mode }
         requires manner { mode_for (C.primitive client).manner.leaving ≡ mode }
-        ensures bad_config { IsErrOf result MakeError.BadConfig ↔ (is_config config ≡ false) }
+        ensures bad_config { IsErrOf result MakeError.BadConfig ↔ (is_small_config config ≡ false) }
         ensures client { IfOk result
             (λ made. (client_of made.0 ≡ client) × (passes_of made.0 ≡ config.passes)) }
         ensures mode { IfOk result
@@ -108,7 +111,7 @@ impl<C: ClientWords> Queue<C> {
         ensures slots { IfOk result (λ made. slots_of made.0 ≡ C.value_slots client) }
         ensures ample { IfOk result (λ made. ample_of made.0 ≡ true) }
     {
-        if !config.is_in_range() {
+        if !config.is_small() {
             return Err(MakeError::BadConfig);
         }
         let cells = config.limit + u64::from(config.passes) + u64::from(client.values());

@@ -50,7 +50,7 @@ invariant_of-pass g c =
       ticket_is = counts.ticket;
       slots_are = ap words_for same.slots ∙ (p.slots_are ∙ ap (λ t. t.words) (sym e.table));
       inside = e.told.2.inside;
-      few_cells = subst (λ n. n < 2147483648) (sym same.cells) p.few_cells;
+      few_cells = subst (λ n. n < 137438953472) (sym same.cells) p.few_cells;
     }
 
 pub returns-clause-belongs : goal.returns-clause-belongs

@@ -1,10 +1,9 @@
-use Rattle.std.proofs.Common.{◌≡◌, ◌∙◌, ap, sym, length}
+use Rattle.std.proofs.Common.{◌∙◌, ap, sym, length}
 use Rattle.std.proofs.lemmas.Result.{IfOk-weaker}
 use Rattle.cqs_slots.proofs.Opens.{numbers-length}
 use Rattle.cqs_rule_laws.specs.declared.view.View.{View}
 use Rattle.cqs_rule_laws.specs.Ruled.{cell_count}
 use Rattle.cqs_rule_laws.specs.Views.{first_view}
-use Rattle.cqs_rule.specs.Passes.{pass_view}
 use Rattle.cqs_rule.proofs.queue.Queue.ample.Goals as goal
 
 pub returns-clause-pass : goal.returns-clause-pass

@@ -1,11 +1,20 @@
-use Rattle.std.proofs.Common.{[], refl, inr, ◌∙◌, arith}
+use Rattle.std.proofs.Common.{◌≡◌, ◌≤◌, [], length, refl, sym, ⊎_elim, inl, inr, ◌∙◌, arith}
+use Rattle.std.proofs.lemmas.List.{append-nil}
 use Rattle.cqs_segment.proofs.Walks.{looked-none}
-use Rattle.cqs_rule.proofs.Claims.{claimed-then, claims-on, crowds, many-kept, more-spares, moved-then, one-more}
+use Rattle.cqs_rule.proofs.Claims.{claimed-then, claims-on, crowds, keeps-spares, many-kept, more-spares, moved-then, one-more}
 use Rattle.cqs_rule.proofs.Segments.{has-more}
 use Rattle.cqs_rule.proofs.queue.Queue.claim_apart.Goals as goal
 
 pub loop-seat-init : goal.loop-seat-init
-loop-seat-init g c = (refl, c.requires.claimer, omega arith, ([], looked-none c.args.seat.me.0), refl)
+loop-seat-init g c = (
+  refl,
+  c.requires.claimer,
+  omega arith,
+  ([], looked-none c.args.seat.me.0),
+  refl,
+  ([], sym (append-nil c.args.seat.me.0.facts.spare_slots)),
+  inl refl,
+)
 
 pub loop-seat-preserved : goal.loop-seat-preserved
 loop-seat-preserved g c =
@@ -24,6 +33,9 @@ loop-seat-preserved g c =
       (let more = more-spares v w c.in-Some.slot claimed.1 in let few = before.2 in omega arith),
       claimed-then u v w u.facts.duties c.in-Some.slot before.3 claimed.1,
       c.claim.ensures.bare ∙ before.4,
+      keeps-spares u v w c.in-Some.slot before.5 claimed.1,
+      inr (let more = more-spares v w c.in-Some.slot claimed.1 in let few = c.loop-seat-test.true in
+          let many = c.count.ensures in let all = many-kept c.args.self.now kept v before.1 in omega arith),
     )
 
 pub loop-seat-smaller : goal.loop-seat-smaller
@@ -59,7 +71,7 @@ returns-in-None-clause-crowded g c =
     let kept = many-kept c.args.self.now c.loop-seat.spares v before.1 in omega arith)
     (let few = c.loop-seat-test.true in let many = c.count.ensures in
     let kept = many-kept c.args.self.now c.loop-seat.spares v before.1 in omega arith)
-    before.3 c.in-None.ensures.crowded
+    before.5 before.3 c.in-None.ensures.crowded
 
 pub returns-clause-claimed : goal.returns-clause-claimed
 returns-clause-claimed g c = record {
@@ -67,5 +79,13 @@ returns-clause-claimed g c = record {
   enough = inr (let all = c.loop-seat-test.false in let many = c.count.ensures in
       let kept = many-kept c.args.self.now c.loop-seat.spares c.loop-seat.seat.me.0 c.loop-seat.invariant.1 in
       omega arith);
+  kept = c.loop-seat.invariant.5;
+  just = ⊎_elim
+      (λ (same : c.loop-seat.seat.me.0.facts.spare_slots ≡ c.args.seat.me.0.facts.spare_slots). inl same)
+      (λ (few : length c.loop-seat.seat.me.0.facts.spare_slots ≤ c.args.most).
+      inr (let all = c.loop-seat-test.false in let many = c.count.ensures in
+      let kept = many-kept c.args.self.now c.loop-seat.spares c.loop-seat.seat.me.0 c.loop-seat.invariant.1 in
+      omega arith))
+      c.loop-seat.invariant.6;
   ample = λ ample. absurd (c.requires.scarce ample);
 }

@@ -1,4 +1,5 @@
-use Rattle.std.proofs.Common.{◌≡◌, ◌-◌, ◌≤◌, length}
+use Rattle.std.proofs.Common.{◌≡◌, ◌⊎◌, ◌-◌, ◌≤◌, length}
+use Rattle.cqs_rule_laws.specs.Lists.{IsPrefix}
 use Rattle.cqs_segment.specs.Walks.{Left}
 use Rattle.cqs_rule.specs.Claims.{IsClaimer}
 use Rattle.cqs_rule.specs.Spares.{spare_list}
@@ -12,6 +13,9 @@ invariant-loop-seat g l =
     × (length l.initial.seat.me.0.facts.spare_slots ≤ length l.seat.me.0.facts.spare_slots)
     × Left l.seat.me.0.facts.spare_slots l.initial.seat.me.0.facts.duties l.initial.seat.me.0 l.seat.me.0
     × (l.seat.me.1 ≡ l.initial.seat.me.1)
+    × IsPrefix l.initial.seat.me.0.facts.spare_slots l.seat.me.0.facts.spare_slots
+    × ((l.seat.me.0.facts.spare_slots ≡ l.initial.seat.me.0.facts.spare_slots)
+    ⊎ (length l.seat.me.0.facts.spare_slots ≤ l.most))
 
 abbrev pub decreases-loop-seat : goal.decreases-loop-seat
 decreases-loop-seat g l = l.most - length (spare_list l.spares)

@@ -1,4 +1,5 @@
-use Rattle.std.proofs.Common.{[], refl, inl, inr, rules, arith}
+use Rattle.std.proofs.Common.{[], refl, sym, inl, inr, rules, arith}
+use Rattle.std.proofs.lemmas.List.{append-nil}
 use Rattle.cqs_segment.proofs.Walks.{looked-none}
 use Rattle.cqs_segment.specs.Walks.{Left}
 use Rattle.cqs_rule.specs.Claims.{IsClaimer}
@@ -11,6 +12,8 @@ pub returns-then-self-clause-claimed : goal.returns-then-self-clause-claimed
 returns-then-self-clause-claimed g c = record {
   left = ([], looked-none (pass_view c.args.pass.now));
   enough = inl (ample-view c.args.self.now c.args.pass.now c.requires.belongs c.if-self.true);
+  kept = ([], sym (append-nil (pass_view c.args.pass.now).facts.spare_slots));
+  just = inl refl;
   ample = λ _. refl;
 }
 
@@ -18,6 +21,8 @@ pub returns-then-spares-most-clause-claimed : goal.returns-then-spares-most-clau
 returns-then-spares-most-clause-claimed g c = record {
   left = ([], looked-none (pass_view c.args.pass.now));
   enough = inr (let all = c.if-spares-most.true in let many = c.spares.ensures in omega arith);
+  kept = ([], sym (append-nil (pass_view c.args.pass.now).facts.spare_slots));
+  just = inl refl;
   ample = λ _. refl;
 }
 

@@ -53,7 +53,7 @@ invariant_of-pass g c =
       ticket_is = λ k t. p.ticket_is k (carries.ticket k t);
       slots_are = ap words_for same.slots ∙ (p.slots_are ∙ ap (λ t. t.words) (sym e.table));
       inside = e.told.2.inside;
-      few_cells = subst (λ n. n < 2147483648) (sym same.cells) p.few_cells;
+      few_cells = subst (λ n. n < 137438953472) (sym same.cells) p.few_cells;
     }
 
 pub returns-in-Nothing-clause-belongs : goal.returns-in-Nothing-clause-belongs
@@ -143,7 +143,7 @@ invariant_of-pass-in-Granted g c =
       ticket_is = λ k t. p.ticket_is k (carries.ticket k t);
       slots_are = ap words_for same.slots ∙ (p.slots_are ∙ ap (λ t. t.words) (sym (done.table ∙ e.table)));
       inside = e.told.2.inside;
-      few_cells = subst (λ n. n < 2147483648) (sym same.cells) p.few_cells;
+      few_cells = subst (λ n. n < 137438953472) (sym same.cells) p.few_cells;
     }) done.counted done.bare
 
 pub returns-in-Granted-clause-belongs : goal.returns-in-Granted-clause-belongs
@@ -217,7 +217,7 @@ invariant_of-pass-in-Ended g c =
       ticket_is = λ k t. p.ticket_is k (carries.ticket k t);
       slots_are = ap words_for same.slots ∙ (p.slots_are ∙ ap (λ t. t.words) (sym (done.table ∙ e.table)));
       inside = e.told.2.inside;
-      few_cells = subst (λ n. n < 2147483648) (sym same.cells) p.few_cells;
+      few_cells = subst (λ n. n < 137438953472) (sym same.cells) p.few_cells;
     }) done.counted done.bare
 
 pub returns-in-Ended-clause-belongs : goal.returns-in-Ended-clause-belongs

@@ -14,7 +14,7 @@ replace_with-spares-requires g c =
     let belongs = c.requires.belongs in
     let few = p.few_cells in
     let low = c.requires.small in
-    let small : c.args.index < 2 ^ 31 = omega arith in (
+    let small : c.args.index < 2 ^ 37 = omega arith in (
       belongs.table,
       (
         claims q p belongs,

@@ -14,7 +14,7 @@ use Rattle.cqs_rule.proofs.Spared.{no-spares}
 use Rattle.cqs_rule.proofs.queue.Queue.new.Goals as goal
 
 few-cells : (config : Config) (values : ℕ) → is_config config ≡ true → values ≤ 4096
-    → cell_count config.passes config.limit values < 2147483648
+    → cell_count config.passes config.limit values < 137438953472
 few-cells config values good few =
     let b = config-bounds config good in
     let passes = b.few_passes in
@@ -48,7 +48,7 @@ invariant_of-result g c =
       ticket_is = λ k e. let idle = ap (λ (z : View _ _). z.facts.doing) me in absurd (cc);
       slots_are = ap (λ (z : View _ _). words_for z.slots) me ∙ sym h.table.2;
       inside = h.seat.1.inside;
-      few_cells = subst (λ n. n < 2147483648) (sym (ap (λ z. z.cells) me))
+      few_cells = subst (λ n. n < 137438953472) (sym (ap (λ z. z.cells) me))
           (few-cells c.args.config p.values good c.requires.few);
     }
 

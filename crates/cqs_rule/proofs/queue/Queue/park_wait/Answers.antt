@@ -8,7 +8,7 @@ low_half-waiter-requires g c =
     let p = c.args.pass.now in
     let low : c.args.wait.now.number < p.seat.me.0.cells =
     p.inside.waits c.args.wait.now.number c.requires.has.open_yet in
-    let few : p.seat.me.0.cells < 2147483648 = p.few_cells in
+    let few : p.seat.me.0.cells < 137438953472 = p.few_cells in
     let number : c.args.wait.now.number < 1099511627776 = omega arith in search rules
 
 pub park-requires : goal.park-requires

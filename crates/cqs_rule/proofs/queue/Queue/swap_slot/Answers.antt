@@ -43,7 +43,7 @@ invariant_of-pass g c =
       ticket_is = λ k e. p.ticket_is k (sym (ap (λ (z : View _ _). z.facts.doing) is) ∙ e);
       slots_are = ap (λ z. words_for z.slots) is ∙ (p.slots_are ∙ ap (λ t. t.words) (sym table));
       inside = inside-swapped _ _ _ swap p.inside;
-      few_cells = subst (λ n. n < 2147483648) (sym (ap (λ z. z.cells) is)) p.few_cells;
+      few_cells = subst (λ n. n < 137438953472) (sym (ap (λ z. z.cells) is)) p.few_cells;
     }
 
 pub returns-clause-belongs : goal.returns-clause-belongs

@@ -60,7 +60,7 @@ invariant_of-pass-else-found-saw g c =
       ticket_is = λ k e. p.ticket_is k (sym stays.doing ∙ e);
       slots_are = ap words_for same.slots ∙ (p.slots_are ∙ ap (λ t. t.words) (sym e.table));
       inside = e.told.2.inside;
-      few_cells = subst (λ n. n < 2147483648) (sym same.cells) p.few_cells;
+      few_cells = subst (λ n. n < 137438953472) (sym same.cells) p.few_cells;
     }
 
 pub returns-else-found-saw-clause-belongs : goal.returns-else-found-saw-clause-belongs
@@ -162,7 +162,7 @@ invariant_of-pass g c =
           c.exchange_at-found.result w c.exchange_at-found.ensures.told.0 c.if-found-saw.true j e);
       slots_are = ap words_for same.slots ∙ (p.slots_are ∙ ap (λ t. t.words) (sym (done.table ∙ e.table)));
       inside = e.told.2.inside;
-      few_cells = subst (λ n. n < 2147483648) (sym same.cells) p.few_cells;
+      few_cells = subst (λ n. n < 137438953472) (sym same.cells) p.few_cells;
     }) done.counted done.bare
 
 pub invariant_of-pass-else-change : goal.invariant_of-pass-else-change
@@ -206,7 +206,7 @@ invariant_of-pass-else-change g c =
           c.exchange_at-found.result w c.exchange_at-found.ensures.told.0 c.if-found-saw.true j e);
       slots_are = ap words_for same.slots ∙ (p.slots_are ∙ ap (λ t. t.words) (sym (e.table)));
       inside = e.told.2.inside;
-      few_cells = subst (λ n. n < 2147483648) (sym same.cells) p.few_cells;
+      few_cells = subst (λ n. n < 137438953472) (sym same.cells) p.few_cells;
     }
 
 pub returns-then-change-clause-belongs : goal.returns-then-change-clause-belongs

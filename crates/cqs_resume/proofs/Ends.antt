@@ -6,6 +6,7 @@ use Rattle.cqs_core.specs.declared.cells.CoreState.{CoreState}
 use Rattle.cqs_core.specs.declared.doings.Doing.TheVariants as doing
 use Rattle.cqs_core.specs.QueueSteps.{QueueStep, reaches, passes_over}
 use Rattle.cqs_rule.specs.declared.queue.tokens.Under.{Under}
+use Rattle.cqs_rule.specs.Claims.{WantsSlot}
 use Rattle.cqs_rule.specs.Owed.{under_reached}
 use Rattle.cqs_rule_laws.specs.declared.view.Facts.{Facts}
 use Rattle.cqs_rule_laws.specs.declared.view.Sighting.{Sighting}
@@ -18,7 +19,8 @@ use Rattle.cqs_rule_laws.specs.Object.{Object, Primitive}
 use Rattle.cqs_rule_laws.specs.Saw.{WasFound}
 use Rattle.cqs_rule_laws.proofs.Causes.{Onward}
 use Rattle.cqs_rule_laws.proofs.Prefixes.{called-prefix}
-use Rattle.cqs_resume.specs.Resumes.{Ended, Stopped}
+use Rattle.cqs_resume.specs.declared.resumed.Resumed.{Resumed}
+use Rattle.cqs_resume.specs.Resumes.{Ended, Held, Stopped}
 use Rattle.cqs_resume.specs.Rounds.{Round, IsOpenedWith, draw_entries, round_entries, over_entries, draw_seen, round_seen, all_seen, drawn_in, one_if, numbers}
 
 -- what the last round found is last of all that was found
@@ -142,4 +144,38 @@ module _ {C E S : Type 0} (object : Object E) (primitive : C → Primitive E S) 
     has = ap (λ (f : Facts). f.has) e.facts_are;
     waits = ap (λ (f : Facts). f.waits) e.facts_are;
     passed = ap (λ (f : Facts). f.passed) e.facts_are;
+  }
+
+  -- It was handed back for want of a slot.
+  pub record HeldOn (under : Under) (u w : View E S) : Type 0 where
+    pub called : Called object u [] [] w
+    pub onward : Onward u w
+    pub has : w.facts.has ≡ u.facts.has
+    pub waits : w.facts.waits ≡ u.facts.waits
+    pub wants : WantsSlot under u w
+
+  pub held-on : (most payload : ℕ) (result : Resumed) (u w : View E S)
+      → (h : Held object primitive most payload u result w) → HeldOn h.under u w
+  held-on most payload result u w h = record {
+    called = subst (λ (l : List E). Called object u l [] w)
+        (λ i. over-none object quiet u.number payload h.over i
+        ++ draw-none object quiet u.number payload h.drawn h.number i) h.called;
+    onward = record {
+      seen = called-prefix object u w _ _ h.called;
+      found = (_, h.found);
+      opening = h.called.same.opening;
+    };
+    has = h.keeps;
+    waits = h.waits_are;
+    wants = record {
+      number = h.number;
+      ticket = h.ticket_is;
+      far = h.far;
+      spareless = h.spareless;
+      before = h.before;
+      heads = h.heads;
+      heads_are = h.heads_are;
+      taken = h.taken;
+      scarce = h.scarce;
+    };
   }

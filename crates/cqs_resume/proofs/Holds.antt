@@ -5,8 +5,9 @@ use Rattle.cqs_core.specs.declared.cells.CoreState.TheVariants as state
 use Rattle.cqs_core.specs.declared.doings.Doing.TheVariants as doing
 use Rattle.cqs_core.specs.QueueSteps.{passes_over, reaches}
 use Rattle.cqs_rule_laws.specs.declared.view.Facts.{Facts}
+use Rattle.cqs_rule_laws.specs.declared.view.Sighting.{Sighting}
 use Rattle.cqs_rule_laws.specs.declared.view.View.{View}
-use Rattle.cqs_rule_laws.specs.Ample.{AreEnough, IsAmple}
+use Rattle.cqs_rule_laws.specs.Ample.{IsAmple}
 use Rattle.cqs_rule_laws.specs.Called.{Called}
 use Rattle.cqs_rule_laws.specs.Counts.{Drew}
 use Rattle.cqs_rule_laws.specs.Facts.{IsBehind}
@@ -15,16 +16,13 @@ use Rattle.cqs_rule_laws.specs.Views.{IsSame}
 use Rattle.cqs_rule_laws.proofs.Calls.{called-by, called-then, called-and}
 use Rattle.cqs_rule.specs.declared.queue.tokens.Under as token
 use Rattle.cqs_rule.specs.Owed.{under_reached}
+use Rattle.cqs_rule.proofs.Claiming.{homes-grow, same-ample}
 use Rattle.cqs_resume.specs.declared.resumed.Resumed.{Resumed}
 use Rattle.cqs_resume.specs.declared.resumed.Resumed.TheVariants.{Served, Left, Refused, Under}
 use Rattle.cqs_resume.specs.Meets.{HeldBack, Meets, Met}
 use Rattle.cqs_resume.specs.Resumes.{GoesOn, Held, IsFurther, Resumes}
-use Rattle.cqs_resume.specs.Rounds.{draw_entries, one_if, over_entries, round_entries}
+use Rattle.cqs_resume.specs.Rounds.{all_seen, draw_entries, draw_seen, one_if, over_entries, round_entries, round_seen}
 use Rattle.cqs_resume.proofs.Runs.{further-of, HasEnded, IsNext, never-falls, opened_by, over-so, resumes-now, resumes-then, Went, went-drawn, went-open}
-
-same-ample : {E S : Type 0} (v w : View E S) → IsSame v w → IsAmple v → IsAmple w
-same-ample v w same ample = subst (λ (n : ℕ × ℕ × ℕ). AreEnough n.0 n.1 n.2)
-    (λ i. (sym same.cells i, sym same.passes i, sym same.slots i)) ample
 
 module _ {C E S : Type 0} (object : Object E) (primitive : C → Primitive E S) where
   -- the ticket of the number was open
@@ -38,7 +36,9 @@ module _ {C E S : Type 0} (object : Object E) (primitive : C → Primitive E S) 
     are_over = tt;
     number = k;
     drawn = false;
+    far = h.crowded.far;
     called = called-by object v w _ [] h.searched.saw;
+    found = ap (λ (f : Facts). f.found) h.searched.saw.facts_are;
     spareless = h.crowded.none_left;
     before = [];
     heads = h.crowded.heads;
@@ -70,8 +70,11 @@ module _ {C E S : Type 0} (object : Object E) (primitive : C → Primitive E S) 
         are_over = tt;
         number = k;
         drawn = true;
+        far = let grown = homes-grow v x d.same in let far = h.crowded.far in omega arith;
         called = subst (λ (l : List E). Called object v l [] w)
             (append-nil first ∙ ap (λ z. object.entries reaches v.number k z) owed) called;
+        found = ap (λ (f : Facts). f.found) h.searched.saw.facts_are
+            ∙ (append-nil x.facts.found ∙ ap (λ (f : Facts). f.found) drawn);
         spareless = h.crowded.none_left;
         before = [];
         heads = h.crowded.heads;
@@ -113,10 +116,17 @@ module _ {C E S : Type 0} (object : Object E) (primitive : C → Primitive E S) 
         );
         number = h.number;
         drawn = h.drawn;
+        far = let grown = homes-grow v u t.called.same in let far = h.far in omega arith;
         called = subst (λ (z : List E). Called object v z [] w)
             ((λ i. first ++ (own (number i) ++ end (number i)))
             ∙ sym (append_assoc first (own v.number) (end v.number)))
             (called-and object v u w first _ (own u.number ++ end u.number) _ t.called h.called);
+        found =
+            let later : List Sighting = all_seen h.over ++ draw_seen h.drawn h.number in
+            h.found ∙ (ap (λ (f : Facts). f.found ++ later) t.facts_are
+            ∙ (append_assoc v.facts.found (round_seen t.round) later
+            ∙ ap (λ l. v.facts.found ++ l)
+            (sym (append_assoc (round_seen t.round) (all_seen h.over) (draw_seen h.drawn h.number)))));
         spareless = h.spareless;
         before = t.round.heads ++ h.before;
         heads = h.heads;

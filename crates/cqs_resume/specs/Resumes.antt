@@ -1,5 +1,5 @@
 -- What a resume answers: exactly the state in which its last cell was found.
-use Rattle.std.specs.Prelude.{◌≡◌, ◌⊎◌, ℕ, ◌<◌, ◌≤◌, Bool, List, [], ◌∷◌, ◌++◌, length, Option, Some, None}
+use Rattle.std.specs.Prelude.{◌≡◌, ◌⊎◌, ℕ, ◌/◌, ◌<◌, ◌≤◌, Bool, List, [], ◌∷◌, ◌++◌, length, Option, Some, None}
 use Rattle.cqs_core.specs.declared.cells.CoreState.{CoreState}
 use Rattle.cqs_core.specs.declared.cells.CoreState.TheVariants as state
 use Rattle.cqs_core.specs.declared.doings.Doing.TheVariants as doing
@@ -23,7 +23,7 @@ use Rattle.cqs_resume.specs.declared.resumed.Resumed.TheVariants.{Served, Left, 
 use Rattle.cqs_find.specs.Finds.{FoundTaken}
 use Rattle.cqs_rule.specs.Counting.{counted_after}
 use Rattle.cqs_resume.specs.Counting.{settles_at}
-use Rattle.cqs_resume.specs.Rounds.{Round, cell_in, IsFoundIn, IsOpenedWith, numbers, drawn_in, facts_after_rounds, round_entries, draw_entries, over_entries}
+use Rattle.cqs_resume.specs.Rounds.{Round, all_seen, cell_in, draw_seen, IsFoundIn, IsOpenedWith, numbers, drawn_in, facts_after_rounds, round_entries, draw_entries, over_entries}
 
 -- how many numbers one call passes over before it hands the resumption back
 abbrev pub most_passed_over : ℕ
@@ -96,10 +96,11 @@ module _ {C E S : Type 0} (object : Object E) (primitive : C → Primitive E S) 
     pub behind : IsBehind (under_reached under) v.facts
     pub further : 1 < most → v.facts.reached < under_reached under
 
-  -- It came to a number whose segment isn't made, and there was no slot for it: the pass has none
-  -- spare, and after its other steps each slot was seen not free. Before, it passed over these
-  -- numbers, of which it drew fewer than `most`; it drew this one too, or its ticket was open. The
-  -- pass keeps the ticket, and has what it had. The table isn't ample.
+  -- It came to a number whose segment isn't made, and there was no slot for it: the pass knew of no
+  -- such segment before, it has no slot spare, and after its other steps each slot was seen not
+  -- free. Before, it passed over these numbers, of which it drew fewer than `most`; it drew this
+  -- one too, or its ticket was open. The pass keeps the ticket, and has what it had. The table
+  -- isn't ample.
   pub record Held (most payload : ℕ) (v : View E S) (result : Resumed) (w : View E S) : Type 0 where
     pub under : token.Under
     pub is : result ≡ Under under
@@ -108,8 +109,10 @@ module _ {C E S : Type 0} (object : Object E) (primitive : C → Primitive E S) 
     pub are_over : AreOver primitive w over
     pub number : ℕ
     pub drawn : Bool
+    pub far : length v.segments.homes ≤ number / 32
     pub called : Called object v (over_entries object v.number payload over
         ++ draw_entries object v.number payload drawn number) [] w
+    pub found : w.facts.found ≡ v.facts.found ++ (all_seen over ++ draw_seen drawn number)
     pub spareless : w.facts.spare_slots ≡ []
     pub before : List (ℕ × ℕ)
     pub heads : List (ℕ × ℕ)

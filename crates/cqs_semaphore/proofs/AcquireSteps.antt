@@ -1,5 +1,5 @@
 -- An acquire is its steps: a load of the suspend counter, one taken from the state, and perhaps a suspend.
-use Rattle.std.proofs.Common.{◌≡◌, ℕ, ◌+◌, ◌<◌, Bool, true, false, List, [], ◌∷◌, ◌++◌, Option, None, Ok, sym, refl, ap, ◌∙◌, subst, append_assoc, if◌then◌else◌}
+use Rattle.std.proofs.Common.{◌≡◌, ℕ, ◌+◌, ◌<◌, Bool, true, false, List, [], ◌∷◌, ◌++◌, Option, None, Ok, sym, refl, ap, ◌∙◌, subst, append_assoc, if◌then◌else◌, lt-ltb}
 use Rattle.cqs_core.specs.declared.doings.Doing.TheVariants as doing
 use Rattle.cqs_core.specs.declared.entries.Entry.{Entry}
 use Rattle.cqs_core.specs.declared.entries.Entry.TheVariants as entry
@@ -8,6 +8,7 @@ use Rattle.cqs_core.specs.SemaphoreEntries.{IsLegal}
 use Rattle.cqs_rule_laws.specs.declared.view.Facts.{Facts}
 use Rattle.cqs_rule_laws.specs.declared.view.Has.{Has as OwnHas}
 use Rattle.cqs_rule_laws.specs.declared.view.Sighting.TheVariants.{Word}
+use Rattle.cqs_rule_laws.specs.declared.view.Spare.{Spare}
 use Rattle.cqs_rule_laws.specs.declared.view.View.{View}
 use Rattle.cqs_rule_laws.specs.Called.{Called}
 use Rattle.cqs_rule_laws.specs.CallRule.{IsReady}
@@ -17,17 +18,20 @@ use Rattle.cqs_rule_laws.specs.Facts.{is_owing}
 use Rattle.cqs_rule_laws.specs.Layout.{suspends_place, client_place}
 use Rattle.cqs_rule_laws.specs.Lists.{Has, IsPrefix}
 use Rattle.cqs_rule_laws.specs.Saw.{Saw}
+use Rattle.cqs_rule_laws.specs.SegmentSteps.{facts_left}
+use Rattle.cqs_rule.specs.Claims.{Claimed, Crowds, HasSpares}
 use Rattle.cqs_semaphore_client.specs.Semaphore.{semaphore_object, takes_one}
 use Rattle.cqs_semaphore_client.specs.SemaphoreSteps.{NextIs, OnState}
 use Rattle.cqs_rule.specs.Waits.{place_of}
-use Rattle.cqs_rule_laws.proofs.Calls.{called-by, called-then, called-and}
+use Rattle.cqs_rule_laws.proofs.Calls.{called-by, called-then, called-and, saw-then}
 use Rattle.cqs_rule_laws.proofs.Causes.{Onward, counted}
 use Rattle.cqs_rule_laws.proofs.Lists.{prefix-then}
-use Rattle.cqs_rule_laws.proofs.Prefixes.{prefix-same, saw-prefix}
+use Rattle.cqs_rule_laws.proofs.Prefixes.{prefix-is, prefix-same, saw-prefix}
 use Rattle.cqs_rule_laws.proofs.Rules.{call-rule, call-rule_own}
+use Rattle.cqs_rule.proofs.Claiming.{crowded-after, saw-left, spares-stay}
 use Rattle.cqs_suspend.proofs.Sat.{sat-taken, sat-installed}
 use Rattle.cqs_words.specs.State.{count_in, is_above_zero}
-use Rattle.cqs_semaphore.specs.Answers.{IsBelow, WasFree, WasNone, Takes, Acquires}
+use Rattle.cqs_semaphore.specs.Answers.{facts_below, IsBelow, IsCrowded, WasFree, WasNone, Takes, Acquires}
 use Rattle.cqs_semaphore.specs.Calls.{CallRule}
 use Rattle.cqs_semaphore.specs.Causes.{primitive_of, drawn_in, StateWas, state_after}
 use Rattle.cqs_semaphore.specs.Entries.{took_entries, came_by, acquired_entries, acquired_further}
@@ -61,7 +65,68 @@ module _ {T : Type 0} where
   took b n u x is o =
       subst (λ z. TookBy z n u x) is (record { saw = o.saw; before = o.before; seen = o.seen; state = o.state })
 
-  -- The pass loaded the counter below the limit, and took one from the state.
+  -- the counter was loaded below the limit
+  below-at : (v u : View Entry T) (n : ℕ) → n < v.limit → NextIs v n u
+      → Saw semaphore_object v (facts_below n v.facts) [] u
+  below-at v u n low next =
+      subst (λ b. Saw semaphore_object v (record v.facts {
+        may_draw = (if b then true else v.facts.may_draw);
+        found = v.facts.found ++ Word suspends_place n ∷ [];
+      }) [] u) (lt-ltb n v.limit low) next.saw
+
+  -- And then slots were claimed, until the pass had two spare.
+  record Prepared (v t : View Entry T) : Type 0 where
+    saw : Saw semaphore_object v t.facts [] t
+    loaded : ℕ
+    at_load : List Entry
+    below : loaded < v.limit
+    counted : Counted drawn_in v loaded at_load t
+    spares : List Spare
+    heads : List (ℕ × ℕ)
+    facts_are : t.facts ≡ facts_left spares heads v.facts.duties (facts_below loaded v.facts)
+    spare : HasSpares 2 t
+
+  prepared : (v u t : View Entry T) (n : ℕ) → n < v.limit → NextIs v n u → Claimed 2 u t → Prepared v t
+  prepared v u t n low next claimed =
+      let was = below-at v u n low next in
+      let left = saw-left semaphore_object u t claimed.left.0 t.facts.spare_slots u.facts.duties claimed.left.1 in
+      record {
+        saw = subst (λ f. Saw semaphore_object v f [] t) (sym left.facts_are)
+            (saw-then semaphore_object v u t _ _ [] was left);
+        loaded = n;
+        at_load = u.seen;
+        below = low;
+        counted = counted semaphore_object drawn_in v u n next.saw t (next-count v u n next)
+            (saw-prefix semaphore_object u t _ _ left) (prefix-is _ _ (ap (λ (f : Facts). f.found) left.facts_are));
+        spares = t.facts.spare_slots;
+        heads = claimed.left.0;
+        facts_are = left.facts_are
+            ∙ (λ i. facts_left t.facts.spare_slots claimed.left.0 ((was.facts_are i).duties) (was.facts_are i));
+        spare = claimed.enough;
+      }
+
+  -- or no slot was free
+  pub is-crowded : (v u w : View Entry T) (n : ℕ) → n < v.limit → NextIs v n u → Crowds 2 u w → IsCrowded v w
+  is-crowded v u w n low next c =
+      let left = saw-left semaphore_object u w c.heads c.spares u.facts.duties c.left in
+      record {
+        loaded = n;
+        before = u.seen;
+        below = low;
+        counted = counted semaphore_object drawn_in v u n next.saw w (next-count v u n next)
+            (saw-prefix semaphore_object u w _ _ left) (prefix-is _ _ (ap (λ (f : Facts). f.found) left.facts_are));
+        crowded = crowded-after semaphore_object 2 (facts_below n v.facts) v u w (below-at v u n low next) refl refl c;
+      }
+
+  pub crowded-ready : (v w : View Entry T) → IsReady v.facts → IsCrowded v w → IsReady w.facts
+  crowded-ready v w ready c =
+      let is = c.crowded.facts_are in
+      record {
+        idle = ap (λ (f : Facts). f.doing) is ∙ ready.idle;
+        further = ap (λ (f : Facts). f.has.further) is ∙ ready.further;
+      }
+
+  -- The pass took one from the state then.
   pub record Came (b : Bool) (v x : View Entry T) : Type 0 where
     pub called : Called semaphore_object v (took_by b v.number) (took_by b v.number) x
     pub loaded : ℕ
@@ -76,41 +141,52 @@ module _ {T : Type 0} where
     pub held : x.facts.has.held ≡ (if b then v.facts.has.held + 1 else v.facts.has.held)
     pub further : x.facts.has.further ≡ v.facts.has.further
     pub waits : x.facts.waits ≡ v.facts.waits
+    pub spare : HasSpares 2 x
 
-  pub came : (b : Bool) (v u x : View Entry T) (n m : ℕ) → is_above_zero m ≡ b → n < v.limit → NextIs v n u
-      → OnState takes_one in_any_case u m x → Came b v x
-  came b v u x n m is low next o =
-      let t : TookBy b m u x = took b m u x is o in
-      let number : u.number ≡ v.number = next.saw.same.number in
-      let was = next.saw.facts_are in
-      let after = t.saw.facts_are in
-      let found_u : u.facts.found ≡ v.facts.found ++ Word suspends_place n ∷ [] = ap (λ (f : Facts). f.found) was in
-      let found_x : x.facts.found ≡ u.facts.found ++ Word (client_place 0) m ∷ [] = ap (λ (f : Facts). f.found) after in
+  came-then : (b : Bool) (v t x : View Entry T) (m : ℕ) → is_above_zero m ≡ b → Prepared v t
+      → OnState takes_one in_any_case t m x → Came b v x
+  came-then b v t x m is p o =
+      let k : TookBy b m t x = took b m t x is o in
+      let number : t.number ≡ v.number = p.saw.same.number in
+      let was = p.facts_are in
+      let after = k.saw.facts_are in
+      let found_t : t.facts.found ≡ v.facts.found ++ Word suspends_place p.loaded ∷ [] =
+      ap (λ (f : Facts). f.found) was in
+      let found_x : x.facts.found ≡ t.facts.found ++ Word (client_place 0) m ∷ [] = ap (λ (f : Facts). f.found) after in
       record {
         called = subst (λ p. Called semaphore_object v (took_by b p) (took_by b p) x) number
-            (called-then semaphore_object v u x _ [] [] (took_by b u.number)
-            (called-by semaphore_object v u _ [] next.saw) t.saw);
-        loaded = n;
-        at_load = u.seen;
-        below = low;
-        counted = counted semaphore_object drawn_in v u n next.saw x (next-count v u n next)
-            (saw-prefix semaphore_object u x _ _ t.saw) (Word (client_place 0) m ∷ [], found_x);
+            (called-then semaphore_object v t x _ [] [] (took_by b t.number)
+            (called-by semaphore_object v t _ [] p.saw) k.saw);
+        loaded = p.loaded;
+        at_load = p.at_load;
+        below = p.below;
+        counted = record {
+          since = p.counted.since;
+          seen = prefix-then p.at_load t.seen x.seen p.counted.seen (saw-prefix semaphore_object t x _ _ k.saw);
+          drawn = p.counted.drawn;
+          found = prefix-then _ t.facts.found x.facts.found p.counted.found (Word (client_place 0) m ∷ [], found_x);
+        };
         word = m;
         word_is = is;
-        before = t.before;
-        found = subst (λ p. StateWas v (count_in m) t.before (took_by b p) x) number
-            (state-was v u x x _ (took_by b u.number) t.before m (Word suspends_place n ∷ [])
-            (saw-prefix semaphore_object v u _ _ next.saw) t.saw
-            t.seen t.state
-            (found_x ∙ (ap (λ l. l ++ Word (client_place 0) m ∷ []) found_u
-            ∙ append_assoc v.facts.found (Word suspends_place n ∷ []) (Word (client_place 0) m ∷ [])))
+        before = k.before;
+        found = subst (λ p. StateWas v (count_in m) k.before (took_by b p) x) number
+            (state-was v t x x _ (took_by b t.number) k.before m (Word suspends_place p.loaded ∷ [])
+            (saw-prefix semaphore_object v t _ _ p.saw) k.saw
+            k.seen k.state
+            (found_x ∙ (ap (λ l. l ++ Word (client_place 0) m ∷ []) found_t
+            ∙ append_assoc v.facts.found (Word suspends_place p.loaded ∷ []) (Word (client_place 0) m ∷ [])))
             (prefix-same x.seen) refl (prefix-same x.facts.found));
         doing = ap (λ (f : Facts). f.doing) after;
         held = ap (λ (f : Facts). f.has.held) after
             ∙ ap (λ (f : Facts). if b then f.has.held + 1 else f.has.held) was;
         further = ap (λ (f : Facts). f.has.further) after ∙ ap (λ (f : Facts). f.has.further) was;
         waits = ap (λ (f : Facts). f.waits) after ∙ ap (λ (f : Facts). f.waits) was;
+        spare = spares-stay 2 t x k.saw.same (ap (λ (f : Facts). f.spare_slots) after) p.spare;
       }
+
+  pub came : (b : Bool) (v u t x : View Entry T) (n m : ℕ) → is_above_zero m ≡ b → n < v.limit → NextIs v n u
+      → Claimed 2 u t → OnState takes_one in_any_case t m x → Came b v x
+  came b v u t x n m is low next claimed o = came-then b v t x m is (prepared v u t n low next claimed) o
 
   -- a permit was free
   pub below-now : (b : Bool) (v x : View Entry T) → Came b v x → IsBelow v x
@@ -118,6 +194,7 @@ module _ {T : Type 0} where
 
   pub was-free : (v x : View Entry T) → IsReady v.facts → Came true v x → WasFree v x
   was-free v x r c = record {
+    spare = c.spare;
     count = count_in c.word;
     before = c.before;
     free = count-above c.word c.word_is;

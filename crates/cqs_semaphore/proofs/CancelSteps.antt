@@ -9,6 +9,7 @@ use Rattle.cqs_core.specs.SemaphoreShown.{state_of}
 use Rattle.cqs_core.specs.QueueSteps.{settles_owing}
 use Rattle.cqs_core.proofs.CoreFacts.{shows-object}
 use Rattle.cqs_rule.specs.declared.queue.tokens.Under.{Under}
+use Rattle.cqs_rule_laws.specs.declared.view.Facts.{Facts}
 use Rattle.cqs_rule_laws.specs.declared.view.Opening.{Opening}
 use Rattle.cqs_rule_laws.specs.declared.view.View.{View}
 use Rattle.cqs_rule.specs.Callbacks.{Asking, by_step}
@@ -36,7 +37,7 @@ use Rattle.cqs_semaphore.specs.Entries.{resumed_further}
 use Rattle.cqs_semaphore.specs.Permits.{number_of}
 use Rattle.cqs_semaphore.specs.Steps.{HasCancelled, HasEnded, PassedOn, as_released}
 use Rattle.cqs_semaphore.proofs.ReleaseSteps.{further-names}
-use Rattle.cqs_semaphore.proofs.ResumeSteps.{ends-so, ends-called}
+use Rattle.cqs_semaphore.proofs.ResumeSteps.{Follows, ends-so, ends-called}
 use Rattle.cqs_semaphore.proofs.States.{state-later, count-below, count-not_below}
 
 decided-so : (k : ℕ) (a b : Bool) → doing.Decided k a ≡ doing.Decided k b → a ≡ b
@@ -148,6 +149,12 @@ module _ {T : Type 0} where
       let out = out-owing semaphore_object primitive_of 0 decides left_entries asks k b.word payload v u b.ends.0 in
       let o = out.0 in
       let on = ends-called u w None payload e.0 e.2 in
+      let follows : Follows v u = record {
+        same = o.called.same;
+        passed = o.passed;
+        heads = b.ends.0.heads;
+        heads_are = ap (λ (f : Facts). f.heads) b.ends.0.facts_are;
+      } in
       let called =
       subst (λ (r : Released). Called semaphore_object u (resumed_further r) (resumed_further r) w) (sym e.1)
       on.0 in
@@ -155,7 +162,7 @@ module _ {T : Type 0} where
       subst (λ a. Ends v v.facts.has.held (without k v.facts.waits) a w) (sym e.1)
       (subst (λ (z : ℕ × List ℕ). Ends v z.0 z.1 (as_released e.0) w)
       (λ i. (ap (λ h. h.held) o.has_is i, o.waits_are i))
-      (ends-so v u w None payload e.0 o.passed (ap (λ h. h.further) o.has_is ∙ ready.further) e.2)) in (
+      (ends-so v u w None payload e.0 follows (ap (λ h. h.further) o.has_is ∙ ready.further) e.2)) in (
         Some released,
         call-rule semaphore_object v w (entry.Leave v.number k ∷ []) (resumed_further released)
             (called-and semaphore_object v u w _ _ _ _ o.called called) (λ n. refl, tt) (further-names released) own

@@ -6,6 +6,7 @@ use Rattle.cqs_core.specs.declared.entries.Entry.TheVariants as entry
 use Rattle.cqs_core.specs.SemaphoreEntries.{IsLegal}
 use Rattle.cqs_core.specs.SemaphoreNames.{entry_names}
 use Rattle.cqs_rule_laws.specs.declared.view.Facts.{Facts}
+use Rattle.cqs_rule_laws.specs.declared.view.Spare.{Spare}
 use Rattle.cqs_rule_laws.specs.declared.view.Sighting.TheVariants.{Word}
 use Rattle.cqs_rule_laws.specs.declared.view.View.{View}
 use Rattle.cqs_rule_laws.specs.Called.{Called}
@@ -15,11 +16,14 @@ use Rattle.cqs_rule_laws.specs.Facts.{is_owing}
 use Rattle.cqs_rule_laws.specs.Layout.{client_place}
 use Rattle.cqs_rule_laws.specs.Lists.{Has}
 use Rattle.cqs_rule_laws.specs.Saw.{Saw}
+use Rattle.cqs_rule_laws.specs.SegmentSteps.{facts_left}
 use Rattle.cqs_semaphore_client.specs.Semaphore.{semaphore_object, gives_one}
 use Rattle.cqs_semaphore_client.specs.SemaphoreSteps.{OnState}
-use Rattle.cqs_rule_laws.proofs.Calls.{called-by, called-and}
+use Rattle.cqs_rule_laws.proofs.Calls.{called-by, called-and, saw-then}
 use Rattle.cqs_rule_laws.proofs.Prefixes.{prefix-same}
 use Rattle.cqs_rule_laws.proofs.Rules.{NoneName, call-rule}
+use Rattle.cqs_rule.proofs.Claiming.{saw-left, spares-stay}
+use Rattle.cqs_rule.specs.Claims.{Claimed, HasSpares}
 use Rattle.cqs_resume.specs.declared.resumed.Resumed.{Resumed}
 use Rattle.cqs_resume.specs.declared.resumed.Resumed.TheVariants as resumed
 use Rattle.cqs_words.specs.State.{count_in, is_below_zero}
@@ -30,7 +34,7 @@ use Rattle.cqs_semaphore.specs.Calls.{CallRule}
 use Rattle.cqs_semaphore.specs.Causes.{StateWas, state_after}
 use Rattle.cqs_semaphore.specs.Entries.{gave_entries, resumed_further}
 use Rattle.cqs_semaphore.specs.Steps.{as_released, HasEnded}
-use Rattle.cqs_semaphore.proofs.ResumeSteps.{ends-so, ends-called}
+use Rattle.cqs_semaphore.proofs.ResumeSteps.{Follows, ends-so, ends-called, follows-now}
 use Rattle.cqs_semaphore.proofs.States.{state-was, state-later, count-below, count-not_below}
 
 abbrev pub given_by : Bool → ℕ → List Entry
@@ -60,18 +64,44 @@ sent-entries p (resumed.Refused k) = refl
 sent-entries p (resumed.Under t) = refl
 
 module _ {T : Type 0} where
+  -- a slot was claimed where none was spare, and then one was added to the state
   pub record GaveBy (b : Bool) (n : ℕ) (v u : View Entry T) : Type 0 where
-    pub saw : Saw semaphore_object v (facts_gave b n v.facts) (given_by b v.number) u
+    pub spares : List Spare
+    pub heads : List (ℕ × ℕ)
+    pub saw : Saw semaphore_object v (facts_gave b n (facts_left spares heads v.facts.duties v.facts))
+        (given_by b v.number) u
     pub before : List Entry
     pub seen : u.seen ≡ before ++ given_by b v.number
     pub state : count_in n ≡ state_after u before
     pub short : is_below_zero n ≡ b
+    pub spare : HasSpares 1 u
 
-  pub gave : (b : Bool) (n : ℕ) (v u : View Entry T) → is_below_zero n ≡ b → OnState gives_one in_any_case v n u
-      → GaveBy b n v u
-  gave b n v u is o =
+  pub gave : (b : Bool) (n : ℕ) (v t u : View Entry T) → is_below_zero n ≡ b → Claimed 1 v t
+      → OnState gives_one in_any_case t n u → GaveBy b n v u
+  gave b n v t u is claimed o =
+      let z = is_below_zero n in
+      let left = saw-left semaphore_object v t claimed.left.0 t.facts.spare_slots v.facts.duties claimed.left.1 in
+      let number : t.number ≡ v.number = left.same.number in
       subst (λ z. GaveBy z n v u) is
-      (record { saw = o.saw; before = o.before; seen = o.seen; state = o.state; short = refl })
+      (record {
+        spares = t.facts.spare_slots;
+        heads = claimed.left.0;
+        saw = subst (λ (y : Facts × ℕ). Saw semaphore_object v (facts_gave z n y.0) (given_by z y.1) u)
+            (λ i. (left.facts_are i, number i)) (saw-then semaphore_object v t u _ _ _ left o.saw);
+        before = o.before;
+        seen = subst (λ p. u.seen ≡ o.before ++ given_by z p) number o.seen;
+        state = o.state;
+        short = refl;
+        spare = spares-stay 1 t u o.saw.same (ap (λ (f : Facts). f.spare_slots) o.saw.facts_are) claimed.enough;
+      })
+
+  follows-give : (b : Bool) (n : ℕ) (v u : View Entry T) → GaveBy b n v u → Follows v u
+  follows-give b n v u g = record {
+    same = g.saw.same;
+    passed = ap (λ (f : Facts). f.passed) g.saw.facts_are;
+    heads = g.heads;
+    heads_are = ap (λ (f : Facts). f.heads) g.saw.facts_are;
+  }
 
   pub gave-called : (b : Bool) (v u : View Entry T) (n : ℕ) → GaveBy b n v u
       → Called semaphore_object v (given_by b v.number) (given_by b v.number) u
@@ -88,6 +118,7 @@ module _ {T : Type 0} where
   freed v u n r g =
       let is = g.saw.facts_are in
       record {
+        spare = g.spare;
         count = count_in n;
         before = g.before;
         enough = count-not_below n g.short;
@@ -122,7 +153,7 @@ module _ {T : Type 0} where
       subst (λ a. Ends v (v.facts.has.held - 1) v.facts.waits a w) (sym e.1)
       (subst (λ (z : ℕ × List ℕ). Ends v z.0 z.1 (as_released e.0) w)
       (λ i. (ap (λ (f : Facts). f.has.held) is i, ap (λ (f : Facts). f.waits) is i))
-      (ends-so v u w ticket payload e.0 (ap (λ (f : Facts). f.passed) is)
+      (ends-so v u w ticket payload e.0 (follows-give true n v u g)
       (ap (λ (f : Facts). f.has.further) is ∙ ready.further) e.2))
 
   releases-by : (v u w : View Entry T) (n : ℕ) (ticket : Option ℕ) (payload : ℕ) (r : Resumed) → IsReady v.facts
@@ -173,4 +204,5 @@ module _ {T : Type 0} where
   pub ends-by : (v w : View Entry T) (ticket : Option ℕ) (payload : ℕ) (a : Released) → v.facts.has.further ≡ 0
       → HasEnded ticket payload v a w → Ends v v.facts.has.held v.facts.waits a w
   ends-by v w ticket payload a none e =
-      subst (λ z. Ends v v.facts.has.held v.facts.waits z w) (sym e.1) (ends-so v v w ticket payload e.0 refl none e.2)
+      subst (λ z. Ends v v.facts.has.held v.facts.waits z w) (sym e.1)
+      (ends-so v v w ticket payload e.0 (follows-now v) none e.2)

@@ -1,15 +1,19 @@
 -- What each call answers, and why.
-use Rattle.std.specs.Prelude.{◌≡◌, ◌≢◌, ◌⊎◌, ℕ, ◌+◌, ◌-◌, true, List, [], ◌∷◌, ◌++◌, Option, Some, None, ℤ, pos, ◌<ℤ◌, ◌≤ℤ◌}
+use Rattle.std.specs.Prelude.{◌≡◌, ◌≢◌, ◌⊎◌, ℕ, ◌+◌, ◌-◌, ◌<◌, true, List, [], ◌∷◌, ◌++◌, Option, Some, None, ℤ, pos, ◌<ℤ◌, ◌≤ℤ◌}
 use Rattle.cqs_core.specs.declared.cells.CoreState.TheVariants as state
 use Rattle.cqs_core.specs.declared.entries.Entry.{Entry}
 use Rattle.cqs_core.specs.declared.entries.Entry.TheVariants as entry
 use Rattle.cqs_rule.specs.declared.queue.tokens.Under as token
 use Rattle.cqs_rule.specs.declared.queue.tokens.Wait.{Wait}
+use Rattle.cqs_rule_laws.specs.declared.view.Facts.{Facts}
+use Rattle.cqs_rule_laws.specs.declared.view.Sighting.TheVariants.{Word}
 use Rattle.cqs_rule_laws.specs.declared.view.View.{View}
 use Rattle.cqs_rule_laws.specs.Causes as laws
 use Rattle.cqs_rule_laws.specs.Causes.{PassedOver}
+use Rattle.cqs_rule_laws.specs.Layout.{suspends_place}
 use Rattle.cqs_rule_laws.specs.Lists.{without}
-use Rattle.cqs_rule.specs.Owed.{HasUnder}
+use Rattle.cqs_rule.specs.Claims.{HasSpares, WantsSlot, WasCrowded}
+use Rattle.cqs_rule.specs.Owed.{HasUnder, under_ticket}
 use Rattle.cqs_rule.specs.Waits.{place_of, HasWait}
 use Rattle.cqs_semaphore.specs.declared.answers.Acquired.{Acquired}
 use Rattle.cqs_semaphore.specs.declared.answers.Acquired.TheVariants.{Now, Later}
@@ -30,6 +34,10 @@ use Rattle.cqs_semaphore.specs.Permits.{number_of}
 abbrev pub most_passed_over : ℕ
 most_passed_over = 64
 
+-- a pass at these facts that loaded the suspend counter as n, below the limit, and did nothing else
+abbrev pub facts_below : ℕ → Facts → Facts
+facts_below n f = record f { may_draw = true; found = f.found ++ Word suspends_place n ∷ [] }
+
 module _ {T : Type 0} where
   -- An acquire was refused, as the limit was reached; or it wasn't.
   abbrev pub IsWorn : View Entry T → View Entry T → Type 0
@@ -38,8 +46,19 @@ module _ {T : Type 0} where
   abbrev pub IsBelow : View Entry T → View Entry T → Type 0
   IsBelow v w = laws.IsBelow drawn_in v w
 
-  -- The state was found above 0, and the permit taken by that step.
+  -- An acquire was refused, as it needs two spare slots: it had loaded the suspend counter below
+  -- the limit, and then each slot was seen not free. Nothing else was touched.
+  pub record IsCrowded (v w : View Entry T) : Type 0 where
+    pub loaded : ℕ
+    pub before : List Entry
+    pub below : loaded < v.limit
+    pub counted : laws.Counted drawn_in v loaded before w
+    pub crowded : WasCrowded 2 (facts_below loaded v.facts) v w
+
+  -- The pass had two spare slots, and then the state was found above 0, and the permit taken by
+  -- that step.
   pub record WasFree (v w : View Entry T) : Type 0 where
+    pub spare : HasSpares 2 w
     pub count : ℤ
     pub before : List Entry
     pub free : pos 0 <ℤ count
@@ -107,10 +126,12 @@ module _ {T : Type 0} where
   Tries v Busy w = WasBusy v w
   Tries v (Contended saw found) w = IsContended v saw found w
 
-  -- the resumption that the pass owes was handed back, since so many numbers were passed over
+  -- the resumption that the pass owes was handed back, since so many numbers were passed over, or
+  -- since there was no slot for the segment of the next
   pub record HandsBack (v : View Entry T) (under : token.Under) (held : ℕ) (waits : List ℕ)
       (w : View Entry T) : Type 0 where
-    pub over : PassedOver most_passed_over v w
+    pub cause : ((under_ticket under ≡ None) × PassedOver most_passed_over v w)
+        ⊎ WantsSlot under v w
     pub owes : HasUnder w.facts under
     pub further : w.facts.has.further ≡ 0
     pub held_is : w.facts.has.held ≡ held
@@ -127,8 +148,10 @@ module _ {T : Type 0} where
   Ends v held waits (Void k) w = CellWas state.Refused k [] w × Rests v held waits w
   Ends v held waits (Under under) w = HandsBack v under held waits w
 
-  -- The state was found at 0 or above: nobody waited for want of a permit.
+  -- The pass had a spare slot, and then the state was found at 0 or above: nobody waited for want
+  -- of a permit.
   pub record WasUnwanted (v w : View Entry T) : Type 0 where
+    pub spare : HasSpares 1 w
     pub count : ℤ
     pub before : List Entry
     pub enough : pos 0 ≤ℤ count

@@ -5,11 +5,11 @@ use Rattle.cqs_core.specs.QueueSteps.{installs, takes}
 use Rattle.cqs_rule_laws.specs.declared.view.View.{View}
 use Rattle.cqs_semaphore_client.specs.Semaphore.{semaphore_object}
 use Rattle.cqs_rule.specs.Waits.{place_of, HasWait}
-use Rattle.cqs_rule.specs.Owed.{under_reached}
+use Rattle.cqs_rule.specs.Owed.{under_reached, under_ticket}
 use Rattle.cqs_rule.specs.declared.queue.tokens.Under as token
 use Rattle.cqs_resume.specs.declared.resumed.Resumed as resume
 use Rattle.cqs_resume.specs.declared.resumed.Resumed.TheVariants as resumed
-use Rattle.cqs_resume.specs.Resumes.{Resumes}
+use Rattle.cqs_resume.specs.Resumes.{GoesOn}
 use Rattle.cqs_suspend.specs.Suspends.{EndsBy}
 use Rattle.cqs_semaphore.specs.declared.answers.Acquired.{Acquired}
 use Rattle.cqs_semaphore.specs.declared.answers.Acquired.TheVariants.{Now, Later}
@@ -38,6 +38,15 @@ IsFurther reached (Left k) = Unit {0}
 IsFurther reached (Void k) = Unit {0}
 IsFurther reached (Under under) = reached < under_reached under
 
+-- the same where it was handed back with no ticket open
+abbrev pub HasDrawnPast : ℕ → Released → Type 0
+HasDrawnPast reached Freed = Unit {0}
+HasDrawnPast reached (Sent k) = Unit {0}
+HasDrawnPast reached (Left k) = Unit {0}
+HasDrawnPast reached (Void k) = Unit {0}
+HasDrawnPast reached (Under under) =
+    under_ticket under ≡ None → reached < under_reached under
+
 module _ {T : Type 0} where
   -- a caller at the door drew a number: the value of its resume was there, or the caller waits
   abbrev pub WaitsInLine : View Entry T → Acquired → View Entry T → Type 0
@@ -51,7 +60,7 @@ module _ {T : Type 0} where
   abbrev pub HasEnded : Option ℕ → ℕ → View Entry T → Released → View Entry T → Type 0
   HasEnded ticket payload v released w =
       (ended : resume.Resumed) × (released ≡ as_released ended)
-      × Resumes semaphore_object primitive_of most_passed_over ticket payload v ended w
+      × GoesOn semaphore_object primitive_of most_passed_over ticket payload v ended w
 
   -- the same by what is still owed
   abbrev pub PassedOn : ℕ → View Entry T → Option token.Under → View Entry T → Type 0

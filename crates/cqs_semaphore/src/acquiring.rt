@@ -1,10 +1,11 @@
 //! The acquire.
 
-ghost use Rattle.std.specs.Prelude.{◌≡◌, true, IfOk, OnOk, OnErr, IsErrOf};
+ghost use Rattle.std.specs.Prelude.{◌≡◌, true, IfOk, OnOk, IsErrOf};
 ghost use Rattle.cqs_core.specs.declared.doings.Doing.TheVariants as doing;
-ghost use Rattle.cqs_rule.specs.Passes.{pass_view};
+ghost use Rattle.cqs_rule.specs.Claims.{CanExtend};
+ghost use Rattle.cqs_rule.specs.Passes.{ample_of, pass_view};
 ghost use Rattle.cqs_semaphore.specs.Alone.{IsPlainAcquire};
-ghost use Rattle.cqs_semaphore.specs.Answers.{IsWorn, IsBelow, Acquires};
+ghost use Rattle.cqs_semaphore.specs.Answers.{IsWorn, IsBelow, IsCrowded, Acquires};
 ghost use Rattle.cqs_rule_laws.specs.CallRule.{IsReady};
 ghost use Rattle.cqs_semaphore.specs.Calls.{IsMine, CallRule};
 ghost use Rattle.cqs_semaphore.specs.Entries.{acquired_entries, acquired_further};
@@ -18,7 +19,8 @@ use cqs_suspend::{Suspended, suspend};
 
 impl<T: Carries + Send> Semaphore<T> {
     /// A permit where one is free, or else a wait for one. It is refused as worn where as many
-    /// numbers were drawn as the limit allows, even if a permit is free.
+    /// numbers were drawn as the limit allows, even if a permit is free. It is refused as crowded
+    /// where the pass has fewer than two slots spare and each slot was seen not free.
     #[inline(always)]
     pub fn acquire(&self, pass: &mut SemPass<T>) -> Result<Acquired, AcquireError>
         requires belongs { IsMine self.now pass.old }
@@ -27,8 +29,12 @@ impl<T: Carries + Send> Semaphore<T> {
         ensures called { CallRule (pass_view pass.old)
             (acquired_entries (pass_view pass.old).number result) (acquired_further result)
             (pass_view pass.new) }
-        ensures worn { OnErr result (IsWorn (pass_view pass.old) (pass_view pass.new)) }
-        ensures never_crowded { ¬ IsErrOf result AcquireError.Crowded }
+        ensures worn { IsErrOf result AcquireError.Worn
+            → IsWorn (pass_view pass.old) (pass_view pass.new) }
+        ensures crowded { IsErrOf result AcquireError.Crowded
+            → IsCrowded (pass_view pass.old) (pass_view pass.new) }
+        ensures never_crowded { ample_of self.now.queue ≡ true
+            → ¬ IsErrOf result AcquireError.Crowded }
         ensures below { OnOk result (IsBelow (pass_view pass.old) (pass_view pass.new)) }
         ensures acquired { IfOk result
             (λ acquired. Acquires (pass_view pass.old) acquired (pass_view pass.new)) }
@@ -39,6 +45,9 @@ impl<T: Carries + Send> Semaphore<T> {
         if next_wait(&self.queue, pass) >= self.queue.limit() {
             return Err(AcquireError::Worn);
         }
+        let Ok(()) = self.queue.claim_spares(pass, 2) else {
+            return Err(AcquireError::Crowded);
+        };
         if take_permit(&self.queue, pass).is_above_zero() {
             return Ok(Acquired::Now(Permit { number: None }));
         }
@@ -49,6 +58,7 @@ impl<T: Carries + Send> Semaphore<T> {
     #[inline(always)]
     fn wait_in_line(&self, pass: &mut SemPass<T>) -> Acquired
         requires belongs { IsMine self.now pass.old }
+        requires spare { CanExtend self.now.queue pass.old }
         requires door { (pass_view pass.old).facts.doing ≡ doing.Door }
         ensures belongs { IsMine self.now pass.new }
         ensures waits { WaitsInLine (pass_view pass.old) result (pass_view pass.new) }

@@ -56,7 +56,8 @@ pub enum Released {
     Left(u64),
     /// The waiter of this number had left, and was told that the permit would be free: it is.
     Void(u64),
-    /// As many numbers were passed over as one call may; `finish` goes on.
+    /// As many numbers were passed over as one call may, or there is no slot for the segment of the
+    /// next; `finish` goes on.
     Under(Under),
 }
 

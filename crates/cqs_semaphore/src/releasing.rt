@@ -1,10 +1,11 @@
 //! The release, and the end of one that was handed back.
 
-ghost use Rattle.std.specs.Prelude.{◌≡◌, ◌<◌, [], true, None, IsOk, IfOk};
+ghost use Rattle.std.specs.Prelude.{◌≡◌, ◌<◌, [], true, None, IsOk, IfErr, IfOk, OnErr, OnOk};
 ghost use Rattle.cqs_core.specs.declared.doings.Doing.TheVariants as doing;
 ghost use Rattle.cqs_rule_laws.specs.Crew.{IsBetween};
+ghost use Rattle.cqs_rule.specs.Claims.{WasCrowded};
 ghost use Rattle.cqs_rule.specs.Owed.{HasUnder, under_payload, under_reached, under_ticket};
-ghost use Rattle.cqs_rule.specs.Passes.{pass_view};
+ghost use Rattle.cqs_rule.specs.Passes.{ample_of, pass_view};
 ghost use Rattle.cqs_semaphore_client.specs.SemaphoreSlots.{IsFull, GaveValue};
 ghost use Rattle.cqs_semaphore.specs.Alone.{IsPlainRelease, IsPlainEnd, IsTurnedBack};
 ghost use Rattle.cqs_semaphore.specs.Answers.{Releases, Ends, most_passed_over};
@@ -12,7 +13,7 @@ ghost use Rattle.cqs_rule_laws.specs.CallRule.{IsReady};
 ghost use Rattle.cqs_semaphore.specs.Calls.{IsMine, CallRule, plain_after};
 ghost use Rattle.cqs_semaphore.specs.Permits.{number_of};
 ghost use Rattle.cqs_semaphore.specs.Entries.{released_entries, released_further, resumed_further};
-ghost use Rattle.cqs_semaphore.specs.Steps.{as_released, HasEnded, IsFurther};
+ghost use Rattle.cqs_semaphore.specs.Steps.{as_released, HasDrawnPast, HasEnded, IsFurther};
 
 use crate::answers::{Permit, Released};
 use crate::semaphore::{SemPass, Semaphore};
@@ -22,7 +23,8 @@ use cqs_semaphore_client::give_permit;
 
 impl<T: Carries + Send> Semaphore<T> {
     /// Gives a permit back: it is free, or it goes to the first who waits. A permit that carries a
-    /// value hands it in: the value must lie in the slot.
+    /// value hands it in: the value must lie in the slot. It is refused as crowded where the pass
+    /// has no slot spare and each slot was seen not free; the permit comes back then.
     #[inline(always)]
     pub fn release(
         &self,
@@ -34,11 +36,17 @@ impl<T: Carries + Send> Semaphore<T> {
         requires holds { 0 < (pass_view pass.old).facts.has.held }
         requires full { IsFull T.kept (pass_view pass.old) }
         ensures belongs { IsMine self.now pass.new }
-        ensures handed { GaveValue T.kept (pass_view pass.old) (pass_view pass.new) }
+        ensures handed { OnOk result
+            (GaveValue T.kept (pass_view pass.old) (pass_view pass.new)) }
         ensures called { CallRule (pass_view pass.old)
             (released_entries (pass_view pass.old).number result) (released_further result)
             (pass_view pass.new) }
-        ensures never_crowded { IsOk result }
+        ensures crowded { OnErr result (WasCrowded 1 (pass_view pass.old).facts
+            (pass_view pass.old) (pass_view pass.new)) }
+        ensures never_crowded { ample_of self.now.queue ≡ true → IsOk result }
+        ensures back { IfErr result (λ refused. refused.0 ≡ permit) }
+        ensures ready { OnErr result (IsReady (pass_view pass.new).facts) }
+        ensures laid { OnErr result ((pass_view pass.new).laid ≡ (pass_view pass.old).laid) }
         ensures released { IfOk result
             (λ released. Releases (pass_view pass.old) released (pass_view pass.new)) }
         ensures between { IsBetween (pass_view pass.new).facts }
@@ -46,6 +54,9 @@ impl<T: Carries + Send> Semaphore<T> {
             → IfOk result (λ released. IsPlainRelease (pass_view pass.old) released
             (pass_view pass.new)) }
     {
+        let Ok(()) = self.queue.claim_spares(pass, 1) else {
+            return Err((permit, Crowded));
+        };
         let Permit { .. } = permit;
         if give_permit(&self.queue, pass).is_below_zero() {
             return Ok(self.send(pass));
@@ -53,7 +64,9 @@ impl<T: Carries + Send> Semaphore<T> {
         Ok(Released::Freed)
     }
 
-    /// Goes on with a permit that is on its way, and whose resumption was handed back.
+    /// Goes on with a permit that is on its way, and whose resumption was handed back. It may be
+    /// handed back again: where as many numbers were passed over as one call may, or for want of a
+    /// slot.
     #[inline(always)]
     pub fn finish(&self, pass: &mut SemPass<T>, under: Under) -> Released
         requires belongs { IsMine self.now pass.old }
@@ -64,7 +77,9 @@ impl<T: Carries + Send> Semaphore<T> {
             (pass_view pass.new) }
         ensures ends { Ends (pass_view pass.old) (pass_view pass.old).facts.has.held
             (pass_view pass.old).facts.waits result (pass_view pass.new) }
-        ensures further { IsFurther (under_reached under) result }
+        ensures further { ample_of self.now.queue ≡ true
+            → IsFurther (under_reached under) result }
+        ensures drawn_past { HasDrawnPast (under_reached under) result }
         ensures between { IsBetween (pass_view pass.new).facts }
         ensures alone { (pass_view pass.old).alone ≡ true
             → (plain_after (pass_view pass.old)).way ≡ 1

@@ -3,7 +3,7 @@
 ghost use Rattle.std.specs.Prelude.{◌≡◌, ◌⊎◌, ◌<◌, ◌≤◌, [], ◌∷◌, true, false, IfOk, IsErrOf};
 ghost use mathlib.Core.Logic.{◌↔◌};
 ghost use Rattle.cqs_core.specs.SemaphoreShown.{state_of};
-ghost use Rattle.cqs_rule_laws.specs.Configured.{is_config};
+ghost use Rattle.cqs_rule_laws.specs.Configured.{is_config, is_small_config};
 ghost use Rattle.cqs_rule.specs.Passes.{ample_of, pass_view, passes_of, limit_of};
 ghost use Rattle.cqs_rule_laws.specs.Views.{first_view};
 ghost use Rattle.cqs_rule_laws.specs.declared.config.CancelMode.TheVariants.{Smart};
@@ -24,15 +24,15 @@ const MOST_PERMITS: u32 = 1_048_576;
 #[derive(Drop)]
 pub struct Semaphore<T: Carries = ()> {
     pub(crate) queue: Queue<SemClient<T>>,
-    // All segments are made as the table opens, so no call needs a spare slot.
-    pub ghost ample_is: { ample_of queue ≡ true },
 }
 
 impl Semaphore {
     ghost use Rattle.cqs_semaphore.specs.Calls.{Rests, IsMine, permits_in};
 
     /// A semaphore with all its permits free, and its first pass, which has number 0 and has seen
-    /// nothing. There are from 1 to 1,048,576 permits.
+    /// nothing. There are from 1 to 1,048,576 permits. The slots of the configuration are for those
+    /// who wait at once: so many want some `waiters / 32 + 2 * passes + 2` slots, which are used
+    /// again. A call that needs one and finds none free is refused as crowded.
     pub fn new(
         alloc: Global,
         permits: u32,
@@ -49,6 +49,35 @@ impl Semaphore {
         ensures nothing { IfOk result (λ made. (pass_view made.1).seen ≡ []) }
         ensures alone { IfOk result (λ made. (pass_view made.1).alone ≡ true) }
         ensures ready { IfOk result (λ made. Rests (pass_view made.1) 0 [] (pass_view made.1)) }
+        ensures slots { IfOk result (λ made. (pass_view made.1).slots ≡ config.slots) }
+    {
+        if permits == 0 || permits > MOST_PERMITS {
+            return Err(MakeError::BadConfig);
+        }
+        let client = SemClient::new(permits);
+        let (queue, pass) = Queue::new(alloc, config, CancelMode::Smart, client)?;
+        Ok((Semaphore { queue }, pass))
+    }
+
+    /// The same on a table with slots for all segments that can ever be wanted, however few the
+    /// configuration asks for. No call of it is crowded, and its memory grows with the limit.
+    pub fn ample(
+        alloc: Global,
+        permits: u32,
+        config: Config,
+    ) -> Result<(Semaphore, SemPass), MakeError>
+        ensures bad_config { IsErrOf result MakeError.BadConfig
+            ↔ ((permits ≡ 0) ⊎ (1048576 < permits) ⊎ (is_small_config config ≡ false)) }
+        ensures belongs { IfOk result (λ made. IsMine made.0 made.1) }
+        ensures permits { IfOk result (λ made. permits_in made.0 ≡ permits) }
+        ensures passes { IfOk result (λ made. (passes_of made.0.queue ≡ config.passes)
+            × (limit_of made.0.queue ≡ config.limit)) }
+        ensures first { IfOk result (λ made. (pass_view made.1).number ≡ 0) }
+        ensures own { IfOk result (λ made. (pass_view made.1).own ≡ 0 ∷ []) }
+        ensures nothing { IfOk result (λ made. (pass_view made.1).seen ≡ []) }
+        ensures alone { IfOk result (λ made. (pass_view made.1).alone ≡ true) }
+        ensures ready { IfOk result (λ made. Rests (pass_view made.1) 0 [] (pass_view made.1)) }
+        ensures ample { IfOk result (λ made. ample_of made.0.queue ≡ true) }
     {
         if permits == 0 || permits > MOST_PERMITS {
             return Err(MakeError::BadConfig);
@@ -62,15 +91,15 @@ impl Semaphore {
 impl Semaphore<Unparked> {
     ghost use Rattle.cqs_semaphore.specs.Calls.{Rests, IsMine, permits_in};
 
-    /// The same for callers who never park: each looks at its wait when it likes. Such a semaphore
-    /// wakes nobody, and so it may stand in a static library.
+    /// As `ample`, for callers who never park: each looks at its wait when it likes. Such a
+    /// semaphore wakes nobody, and so it may stand in a static library.
     pub fn unparked(
         alloc: Global,
         permits: u32,
         config: Config,
     ) -> Result<(Semaphore<Unparked>, SemPass<Unparked>), MakeError>
         ensures bad_config { IsErrOf result MakeError.BadConfig
-            ↔ ((permits ≡ 0) ⊎ (1048576 < permits) ⊎ (is_config config ≡ false)) }
+            ↔ ((permits ≡ 0) ⊎ (1048576 < permits) ⊎ (is_small_config config ≡ false)) }
         ensures belongs { IfOk result (λ made. IsMine made.0 made.1) }
         ensures permits { IfOk result (λ made. permits_in made.0 ≡ permits) }
         ensures passes { IfOk result (λ made. (passes_of made.0.queue ≡ config.passes)
@@ -80,6 +109,7 @@ impl Semaphore<Unparked> {
         ensures nothing { IfOk result (λ made. (pass_view made.1).seen ≡ []) }
         ensures alone { IfOk result (λ made. (pass_view made.1).alone ≡ true) }
         ensures ready { IfOk result (λ made. Rests (pass_view made.1) 0 [] (pass_view made.1)) }
+        ensures ample { IfOk result (λ made. ample_of made.0.queue ≡ true) }
     {
         if permits == 0 || permits > MOST_PERMITS {
             return Err(MakeError::BadConfig);

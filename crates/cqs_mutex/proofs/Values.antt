@@ -1,8 +1,10 @@
 -- What lies in the slot, and what a pass holds, after the calls of the semaphore.
 use Rattle.std.proofs.Common.{◌≡◌, ◌≢◌, ℕ, ◌+◌, ◌==◌, Bool, true, false, List, [], ◌∷◌, ◌++◌, sym, refl, ap, ◌∙◌, subst, Option, Some, None, if◌then◌else◌, Result, Ok, Err}
-use Rattle.std.specs.Prelude.{IfOk, OnOk, OnErr}
+use Rattle.std.specs.Prelude.{IfOk, IsErrOf, OnOk, OnErr}
 use Rattle.cqs_core.specs.declared.entries.Entry.{Entry}
 use Rattle.cqs_rule_laws.specs.declared.carries.Kept.{Kept}
+use Rattle.cqs_rule_laws.specs.declared.config.AcquireError.{AcquireError}
+use Rattle.cqs_rule_laws.specs.declared.config.AcquireError.TheVariants.{Worn, Crowded}
 use Rattle.cqs_rule_laws.specs.declared.view.View.{View}
 use Rattle.cqs_rule_laws.specs.Lists.{IsPrefix, without}
 use Rattle.cqs_rule_laws.specs.Slots.{laid_in, handed_in, or_else}
@@ -11,7 +13,7 @@ use Rattle.cqs_rule_laws.proofs.Handing.{handed-here}
 use Rattle.cqs_semaphore.specs.declared.answers.Released.{Released}
 use Rattle.cqs_semaphore.specs.declared.answers.Released.TheVariants as released
 use Rattle.cqs_rule.specs.declared.queue.tokens.Under.{Under}
-use Rattle.cqs_semaphore.specs.Answers.{Takes, Ends, Releases, PassesOn}
+use Rattle.cqs_semaphore.specs.Answers.{Takes, Ends, IsCrowded, IsWorn, Releases, PassesOn}
 use Rattle.cqs_semaphore.specs.Owed.{owed_after}
 use Rattle.cqs_mutex.specs.Calls.{OwesAtMost, UnlockLeaves}
 use Rattle.cqs_mutex.specs.Mutexes.{IsFilled}
@@ -57,6 +59,13 @@ module _ {T : Type 0} where
   pub takes-held : (o : Option ℕ) (v w : View Entry T) → Takes v o w → w.facts.has.held ≡ v.facts.has.held + 1
   takes-held None v w t = t.rests.held_is
   takes-held (Some k) v w t = t.2.held_is
+
+  -- or that was refused
+  pub refused-held : {A : Type 0} (e : AcquireError) (v w : View Entry T)
+      → (IsErrOf {T = A} (Err e) Worn → IsWorn v w) → (IsErrOf {T = A} (Err e) Crowded → IsCrowded v w)
+      → w.facts.has.held ≡ v.facts.has.held
+  refused-held Worn v w worn crowded = ap (λ f. f.has.held) (worn refl).facts_are
+  refused-held Crowded v w worn crowded = ap (λ f. f.has.held) (crowded refl).crowded.facts_are
 
   -- and how much after the end of a resumption
   pub ends-held : (v w : View Entry T) (held : ℕ) (waits : List ℕ) (a : Released) → Ends v held waits a w
@@ -124,3 +133,7 @@ pub by-answer : {A X : Type 0} (r : Result A X) (P Q R Z : Type 0) → (P → Q 
     → OnErr r R → Z
 by-answer (Ok a) P Q R Z f g p q e = f p q
 by-answer (Err e) P Q R Z f g p q r = g r
+
+-- a refusal that is given on
+pub same-refusal : {A B : Type 0} (e f : AcquireError) → IsErrOf {T = A} (Err e) f → IsErrOf {T = B} (Err e) f
+same-refusal e f is = let same : e ≡ f = cc in ap (λ x. Err x) same

@@ -1,12 +1,14 @@
 -- The calls of a mutex: each is the semaphore's call of the same place, at which the pass was at a
 -- view in between; and where the caller has the mutex then, or gives it back, its value moves.
-use Rattle.std.specs.Prelude.{◌≡◌, ◌<◌, true, [], Option, Some, None, Result, Ok, Err, IfOk, OnOk, OnErr}
+use Rattle.std.specs.Prelude.{◌≡◌, ◌<◌, true, [], Option, Some, None, Result, Ok, Err, IfOk, IsErrOf, OnOk}
 use Rattle.cqs_core.specs.declared.entries.Entry.{Entry}
 use Rattle.cqs_rule_laws.specs.declared.config.AcquireError.{AcquireError}
+use Rattle.cqs_rule_laws.specs.declared.config.AcquireError.TheVariants as refused
 use Rattle.cqs_rule.specs.declared.queue.tokens.Under as token
 use Rattle.cqs_rule.specs.declared.queue.tokens.Wait.{Wait}
 use Rattle.cqs_rule_laws.specs.declared.carries.Kept.{Kept}
 use Rattle.cqs_rule_laws.specs.declared.view.View.{View}
+use Rattle.cqs_rule.specs.Claims.{Claimed}
 use Rattle.cqs_rule.specs.Owed.{HasUnder}
 use Rattle.cqs_rule.specs.Waits.{HasWait, place_of}
 use Rattle.cqs_semaphore.specs.declared.answers.Acquired.{Acquired}
@@ -20,7 +22,7 @@ use Rattle.cqs_semaphore.specs.declared.answers.CancelAnswer.TheVariants as canc
 use Rattle.cqs_semaphore.specs.declared.answers.Released.{Released}
 use Rattle.cqs_semaphore.specs.declared.answers.Released.TheVariants.{Freed, Sent, Left, Void, Under}
 use Rattle.cqs_semaphore.specs.Alone.{IsPlainAcquire, IsPlainTry, IsPlainPoll, IsPlainCancel, IsPlainRelease, HandsNone}
-use Rattle.cqs_semaphore.specs.Answers.{IsWorn, IsBelow, Acquires, Tries, IsPolled, Releases}
+use Rattle.cqs_semaphore.specs.Answers.{IsWorn, IsBelow, IsCrowded, Acquires, Tries, IsPolled, Releases}
 use Rattle.cqs_rule_laws.specs.CallRule.{IsReady}
 use Rattle.cqs_semaphore.specs.Calls.{CallRule}
 use Rattle.cqs_semaphore.specs.Entries.{acquired_entries, acquired_further, tried_entries, polled_entries, gave_entries, resumed_further}
@@ -121,7 +123,8 @@ module _ {T : Type 0} where
     pub between : View Entry (Kept T)
     pub called : CallRule v (acquired_entries v.number (as_answer answer))
         (acquired_further (as_answer answer)) between
-    pub worn : OnErr answer (IsWorn v between)
+    pub worn : IsErrOf answer refused.Worn → IsWorn v between
+    pub crowded : IsErrOf answer refused.Crowded → IsCrowded v between
     pub below : OnOk answer (IsBelow v between)
     pub acquired : IfOk answer (λ locked. Acquires v (as_acquired locked) between)
     pub alone : v.alone ≡ true → IfOk answer (λ locked. IsPlainAcquire v (as_acquired locked))
@@ -155,11 +158,14 @@ module _ {T : Type 0} where
     pub hands_none : v.alone ≡ true → HandsNone (as_cancelled answer)
     pub value : LeftValue answer between w
 
-  -- An unlock lays the value into the slot, and is a release then.
+  -- An unlock claims a slot where the pass has none spare, lays the value into the value slot, and
+  -- is a release then.
   pub record HasUnlocked (value : T) (v : View Entry (Kept T)) (answer : Released)
       (w : View Entry (Kept T)) : Type 0 where
+    pub claimed : View Entry (Kept T)
+    pub claims : Claimed 1 v claimed
     pub between : View Entry (Kept T)
-    pub laid : LaidValue value v between
+    pub laid : LaidValue value claimed between
     pub called : CallRule between (gave_entries between.number answer) (resumed_further answer) w
     pub releases : Releases between answer w
     pub alone : v.alone ≡ true → IsPlainRelease between answer w

@@ -1,7 +1,7 @@
 //! The lock, and the try.
 
-ghost use Rattle.std.specs.Prelude.{IsErrOf};
-ghost use Rattle.cqs_rule.specs.Passes.{pass_view};
+ghost use Rattle.std.specs.Prelude.{◌≡◌, true, IsErrOf};
+ghost use Rattle.cqs_rule.specs.Passes.{ample_of, pass_view};
 ghost use Rattle.cqs_rule_laws.specs.CallRule.{IsReady};
 ghost use Rattle.cqs_mutex.specs.Calls.{HasLocked, HasTried, LockedHolds, TriedHolds};
 ghost use Rattle.cqs_mutex.specs.Mutexes.{Belongs};
@@ -14,13 +14,15 @@ use cqs_semaphore::{Acquired, Tried};
 
 impl<T: Send + Drop> Mutex<T> {
     /// The guard where the mutex is free, or else a wait for it. It is refused as worn where as
-    /// many numbers were drawn as the limit allows, even if the mutex is free.
+    /// many numbers were drawn as the limit allows, even if the mutex is free; and as crowded where
+    /// the pass has fewer than two slots spare and each slot was seen not free.
     pub fn lock(&self, pass: &mut MutexPass<T>) -> Result<Locked<T>, AcquireError>
         requires belongs { Belongs self.now pass.old }
         requires ready { IsReady (pass_view pass.old).facts }
         ensures belongs { Belongs self.now pass.new }
         ensures locked { HasLocked (pass_view pass.old) result (pass_view pass.new) }
-        ensures never_crowded { ¬ IsErrOf result AcquireError.Crowded }
+        ensures never_crowded { ample_of self.now.semaphore.queue ≡ true
+            → ¬ IsErrOf result AcquireError.Crowded }
         ensures holds { LockedHolds result (pass_view pass.new) }
         ensures ready { IsReady (pass_view pass.new).facts }
     {

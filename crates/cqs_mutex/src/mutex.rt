@@ -2,8 +2,8 @@
 
 ghost use Rattle.std.specs.Prelude.{◌≡◌, ◌<◌, [], true, false, None, IfOk, IfErr};
 ghost use mathlib.Core.Logic.{◌↔◌};
-ghost use Rattle.cqs_rule_laws.specs.Configured.{is_config};
-ghost use Rattle.cqs_rule.specs.Passes.{pass_view, passes_of, limit_of};
+ghost use Rattle.cqs_rule_laws.specs.Configured.{is_config, is_small_config};
+ghost use Rattle.cqs_rule.specs.Passes.{ample_of, pass_view, passes_of, limit_of};
 ghost use Rattle.cqs_rule_laws.specs.Slots.{laid_in};
 ghost use Rattle.cqs_semaphore.specs.Calls.{Rests, IsMine, permits_in};
 
@@ -28,7 +28,9 @@ impl<T: Send + Drop> Mutex<T> {
     ghost use Rattle.cqs_mutex.specs.Values.{TookValue};
 
     /// A mutex that is free, around this value, and its first pass, which has number 0 and has seen
-    /// nothing. Where none is made, the value comes back.
+    /// nothing. Where none is made, the value comes back. The slots of the configuration are for
+    /// those who wait at once: so many want some `waiters / 32 + 2 * passes + 2` slots, which are
+    /// used again. A call that needs one and finds none free is refused as crowded.
     pub fn new(
         alloc: Global,
         value: T,
@@ -40,6 +42,27 @@ impl<T: Send + Drop> Mutex<T> {
         ensures opens { IfOk result (λ made. Opens value config made.0 made.1) }
     {
         let (semaphore, mut pass) = match Semaphore::guarded(alloc, config) {
+            Ok(made) => made,
+            Err(error) => return Err((value, error)),
+        };
+        semaphore.queue().fill_slot(&mut pass, 0, Kept { value });
+        Ok((Mutex { semaphore }, pass))
+    }
+
+    /// The same on a table with slots for all segments that can ever be wanted, however few the
+    /// configuration asks for. No call of it is crowded, and its memory grows with the limit.
+    pub fn ample(
+        alloc: Global,
+        value: T,
+        config: Config,
+    ) -> Result<(Mutex<T>, MutexPass<T>), (T, MakeError)>
+        ensures bad_config { IsBadConfig result ↔ (is_small_config config ≡ false) }
+        ensures back { IfErr result (λ refused. refused.0 ≡ value) }
+        ensures belongs { IfOk result (λ made. Belongs made.0 made.1) }
+        ensures opens { IfOk result (λ made. Opens value config made.0 made.1) }
+        ensures ample { IfOk result (λ made. ample_of made.0.semaphore.queue ≡ true) }
+    {
+        let (semaphore, mut pass) = match Semaphore::guarded_ample(alloc, config) {
             Ok(made) => made,
             Err(error) => return Err((value, error)),
         };

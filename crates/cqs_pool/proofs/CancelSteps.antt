@@ -37,7 +37,7 @@ use Rattle.cqs_pool.specs.Causes.{primitive_of, CellWasOnce, CellHadOnce, CellHa
 use Rattle.cqs_pool.specs.Entries.{placed_further, passed_further}
 use Rattle.cqs_pool.specs.Pool.{pool_object}
 use Rattle.cqs_pool.specs.Steps.{HasCancelled, HasEnded, PassedOn}
-use Rattle.cqs_pool.proofs.ResumeSteps.{ends-so, ends-called, further-names}
+use Rattle.cqs_pool.proofs.ResumeSteps.{Follows, ends-so, ends-called, further-names}
 
 module _ {T : Type 0} where
   -- what was found once in a call was found in it still when the call has gone on, with its payload
@@ -73,7 +73,7 @@ module _ {T : Type 0} where
     slots : u.facts.has.slots ≡ v.facts.has.slots
     further : u.facts.has.further ≡ v.facts.has.further
     waits : u.facts.waits ≡ without k v.facts.waits
-    passed : u.facts.passed ≡ v.facts.passed
+    follows : Follows v u
 
   -- no resume had left anything there
   out-gone : (k : ℕ) (v u : View PoolEntry T) → Closes pool_object primitive_of settles k 0 v u
@@ -99,7 +99,12 @@ module _ {T : Type 0} where
         slots = ap (λ (f : Facts). f.has.slots) is;
         further = ap (λ (f : Facts). f.has.further) is;
         waits = ap (λ (f : Facts). f.waits) is;
-        passed = ap (λ (f : Facts). f.passed) is;
+        follows = record {
+          same = e.called.same;
+          passed = ap (λ (f : Facts). f.passed) is;
+          heads = e.heads;
+          heads_are = ap (λ (f : Facts). f.heads) is;
+        };
       }
 
   -- one had left an element
@@ -127,7 +132,12 @@ module _ {T : Type 0} where
           slots = ap (λ (f : Facts). f.has.slots) is;
           further = ap (λ (f : Facts). f.has.further) is;
           waits = ap (λ (f : Facts). f.waits) is;
-          passed = ap (λ (f : Facts). f.passed) is;
+          follows = record {
+            same = e.called.same;
+            passed = ap (λ (f : Facts). f.passed) is;
+            heads = e.heads;
+            heads_are = ap (λ (f : Facts). f.heads) is;
+          };
         },
         (
           record {
@@ -180,7 +190,7 @@ module _ {T : Type 0} where
       let ends : Ends v payload v.facts.has.slots (without k v.facts.waits) placed w =
       subst (λ (z : List ℕ × List ℕ). Ends v payload z.0 z.1 placed w)
       (λ i. (o.slots i, o.waits i))
-      (ends-so v u w most_passed_over None payload placed o.passed (o.further ∙ ready.further) refl e) in (
+      (ends-so v u w most_passed_over None payload placed o.follows (o.further ∙ ready.further) refl e) in (
         payload,
         Some placed,
         call-rule pool_object v w (entry.Leave v.number k ∷ []) (placed_further payload placed)

@@ -1,5 +1,6 @@
 -- The resumption of an element: it ended at a cell, or was handed back; and it never ends at a refused one.
-use Rattle.std.proofs.Common.{◌≡◌, ℕ, ◌≤◌, List, [], ◌++◌, length, Option, Some, None, slice_get, sym, refl, ap, ◌∙◌, subst, arith, inl, inr}
+use Rattle.std.proofs.Common.{◌≡◌, ℕ, ◌<◌, ◌≤◌, List, [], ◌++◌, length, Option, Some, None, slice_get, sym, refl, ap, ◌∙◌, subst, append_assoc, arith, inl, inr}
+use Rattle.std.proofs.lemmas.List.{append-nil}
 use Rattle.cqs_core.specs.declared.cells.CoreState.{CoreState}
 use Rattle.cqs_core.specs.declared.cells.CoreState.TheVariants as state
 use Rattle.cqs_pool_object.specs.declared.entries.PoolEntry.{PoolEntry}
@@ -7,12 +8,17 @@ use Rattle.cqs_core.specs.QueueSteps.{QueueStep, serves, leaves, delegates}
 use Rattle.cqs_pool_object.specs.PoolSteps.{step_entries}
 use Rattle.cqs_rule_laws.specs.declared.view.Facts.{Facts}
 use Rattle.cqs_rule_laws.specs.declared.view.View.{View}
+use Rattle.cqs_rule_laws.specs.Ample.{AreEnough}
 use Rattle.cqs_rule_laws.specs.Called.{Called}
 use Rattle.cqs_rule_laws.specs.Causes.{cell_of}
 use Rattle.cqs_rule_laws.specs.Exchanges.{HasCell}
 use Rattle.cqs_rule_laws.specs.Hidden.{state_in}
 use Rattle.cqs_rule_laws.specs.Lists.{Has}
 use Rattle.cqs_rule_laws.specs.Saw.{WasShown}
+use Rattle.cqs_rule_laws.specs.Views.{IsSame}
+use Rattle.cqs_rule_laws.proofs.Calls.{same-here}
+use Rattle.cqs_rule.proofs.Claiming.{wants-since}
+use Rattle.cqs_rule.specs.Claims.{WantsSlot}
 use Rattle.cqs_rule_laws.proofs.Causes.{Onward}
 use Rattle.cqs_rule_laws.proofs.Rules.{NoneName, call-rule}
 use Rattle.cqs_rule.specs.declared.queue.tokens.Under as token
@@ -25,9 +31,9 @@ use Rattle.cqs_pool.specs.Pool.{pool_object}
 use Rattle.cqs_resume.specs.declared.resumed.Resumed.{Resumed}
 use Rattle.cqs_resume.specs.declared.resumed.Resumed.TheVariants as resumed
 use Rattle.cqs_resume.specs.Resumes as resume
-use Rattle.cqs_resume.specs.Resumes.{Ended, Stopped, Resumes}
+use Rattle.cqs_resume.specs.Resumes.{Ended, GoesOn, Held, Resumes, Stopped}
 use Rattle.cqs_resume.specs.Rounds.{Round, drawn_in, numbers, IsOpenedWith}
-use Rattle.cqs_resume.proofs.Ends.{IsQuiet, EndedAt, ended-at, handed-back, drawn-few, opened-few}
+use Rattle.cqs_resume.proofs.Ends.{IsQuiet, EndedAt, HeldOn, ended-at, held-on, handed-back, drawn-few, opened-few}
 use Rattle.cqs_pool.specs.declared.answers.Placed.{Placed}
 use Rattle.cqs_pool.specs.declared.answers.Placed.TheVariants.{Sent, Left, Under}
 use Rattle.cqs_pool.specs.Answers.{Ends, HandsBack}
@@ -35,7 +41,7 @@ use Rattle.cqs_pool.specs.Calls.{Rests, CallRule}
 use Rattle.cqs_pool.specs.Causes.{primitive_of}
 use Rattle.cqs_pool.specs.Entries.{placed_further}
 use Rattle.cqs_pool.specs.Owed.{IsUnrefused, IsPlacedAs}
-use Rattle.cqs_pool.specs.Steps.{HasEnded, IsFurther}
+use Rattle.cqs_pool.specs.Steps.{HasDrawnPast, HasEnded, IsFurther}
 
 -- only its last step shows an entry
 pub quiet : IsQuiet pool_object
@@ -66,7 +72,26 @@ further-so reached (resumed.Left k) a is f = subst (IsFurther reached) (sym is) 
 further-so reached (resumed.Refused k) a is f = absurd is
 further-so reached (resumed.Under under) a is f = subst (IsFurther reached) (sym is) f
 
+-- so is the answer of one that was handed back
+placed-held : (under : token.Under) (r : Resumed) (a : Placed) → r ≡ resumed.Under under → IsPlacedAs r a
+    → a ≡ Under under
+placed-held under r a is placed = subst (λ z. IsPlacedAs z a) is placed
+
+no-ticket : (k : ℕ) → Some k ≡ None → ⊥
+no-ticket k is = cc
+
 module _ {T : Type 0} where
+  -- What a call did before its resumption: it passed over no number, and found these heads.
+  pub record Follows (v u : View PoolEntry T) : Type 0 where
+    pub same : IsSame v u
+    pub passed : u.facts.passed ≡ v.facts.passed
+    pub heads : List (ℕ × ℕ)
+    pub heads_are : u.facts.heads ≡ v.facts.heads ++ heads
+
+  pub follows-now : (v : View PoolEntry T) → Follows v v
+  follows-now v =
+      record { same = same-here v; passed = refl; heads = []; heads_are = sym (append-nil v.facts.heads) }
+
   -- it ended at the cell of the number k
   abbrev EndedSo : CoreState → ℕ → List PoolEntry → List ℕ → View PoolEntry T → View PoolEntry T → Type 0
   EndedSo at k own over u w = EndedAt pool_object primitive_of quiet at k own over u w
@@ -86,20 +111,41 @@ module _ {T : Type 0} where
 
   -- it was handed back, after so many numbers in all
   hands-back : (v u w : View PoolEntry T) (most : ℕ) (ticket : Option ℕ) (payload : ℕ) (under : token.Under)
-      → u.facts.passed ≡ v.facts.passed → u.facts.has.further ≡ 0 → IsWhole most ticket
+      → Follows v u → u.facts.has.further ≡ 0 → IsWhole most ticket
       → Stopped pool_object primitive_of most ticket payload under u w
       → HandsBack v payload under u.facts.has.slots u.facts.waits w
-  hands-back v u w most ticket payload under same none whole e = record {
-    over = record {
-      over = numbers e.over;
-      passed = ap (λ (f : Facts). f.passed) e.facts_are ∙ ap (λ l. l ++ numbers e.over) same;
-      many_are = many-over most ticket e.over whole e.opens e.all;
-    };
+  hands-back v u w most ticket payload under follows none whole e = record {
+    cause = inl (
+      e.ticket_is,
+      record {
+        over = numbers e.over;
+        passed = ap (λ (f : Facts). f.passed) e.facts_are ∙ ap (λ l. l ++ numbers e.over) follows.passed;
+        many_are = many-over most ticket e.over whole e.opens e.all;
+      },
+    );
     owes = e.has;
     brings = e.payload_is;
     further = ap (λ (f : Facts). f.has.further) e.facts_are ∙ none;
     elements_are = ap (λ (f : Facts). f.has.slots) e.facts_are;
     waits_are = ap (λ (f : Facts). f.waits) e.facts_are;
+  }
+
+  -- for want of a slot
+  held : (u w : View PoolEntry T) (most payload : ℕ) (r : Resumed)
+      → (h : Held pool_object primitive_of most payload u r w) → HeldOn pool_object primitive_of quiet h.under u w
+  held u w most payload r h = held-on pool_object primitive_of quiet most payload r u w h
+
+  held-back : (v u w : View PoolEntry T) (most payload : ℕ) (r : Resumed) → Follows v u → u.facts.has.further ≡ 0
+      → (h : Held pool_object primitive_of most payload u r w)
+      → HandsBack v payload h.under u.facts.has.slots u.facts.waits w
+  held-back v u w most payload r follows none h = record {
+    cause = inr (wants-since h.under v u w follows.same (follows.heads, follows.heads_are)
+        (held u w most payload r h).wants);
+    owes = h.has;
+    brings = h.payload_is;
+    further = ap (λ h. h.further) h.keeps ∙ none;
+    elements_are = ap (λ h. h.slots) h.keeps;
+    waits_are = h.waits_are;
   }
 
   -- no cell of a pool is refused
@@ -114,68 +160,95 @@ module _ {T : Type 0} where
       found (Some cell) there at =
           was.shown.unrefused.at fact.number cell there (sym (ap state_in there) ∙ at)
 
-  pub never-refused : (u w : View PoolEntry T) (most : ℕ) (ticket : Option ℕ) (payload : ℕ) (r : Resumed)
+  never-ends : (u w : View PoolEntry T) (most : ℕ) (ticket : Option ℕ) (payload : ℕ) (r : Resumed)
       → Resumes pool_object primitive_of most ticket payload u r w → IsUnrefused r
-  never-refused u w most ticket payload (resumed.Served k) e = tt
-  never-refused u w most ticket payload (resumed.Left k) e = tt
-  never-refused u w most ticket payload (resumed.Refused k) e =
+  never-ends u w most ticket payload (resumed.Served k) e = tt
+  never-ends u w most ticket payload (resumed.Left k) e = tt
+  never-ends u w most ticket payload (resumed.Refused k) e =
       none-refused (cell_of e.last.number state.Refused e.last.payload) e.was.before w.opening refl e.was.was
-  never-refused u w most ticket payload (resumed.Under under) e = tt
+  never-ends u w most ticket payload (resumed.Under under) e = tt
+
+  pub never-refused : (u w : View PoolEntry T) (most : ℕ) (ticket : Option ℕ) (payload : ℕ) (r : Resumed)
+      → GoesOn pool_object primitive_of most ticket payload u r w → IsUnrefused r
+  never-refused u w most ticket payload r (inl e) = never-ends u w most ticket payload r e
+  never-refused u w most ticket payload r (inr h) = subst IsUnrefused (sym h.is) tt
 
   -- the answer
   ends-as : (v u w : View PoolEntry T) (most : ℕ) (ticket : Option ℕ) (payload : ℕ) (r : Resumed) (a : Placed)
-      → u.facts.passed ≡ v.facts.passed → u.facts.has.further ≡ 0 → IsWhole most ticket → IsPlacedAs r a
-      → Resumes pool_object primitive_of most ticket payload u r w
+      → Follows v u → u.facts.has.further ≡ 0 → IsWhole most ticket → IsPlacedAs r a
+      → GoesOn pool_object primitive_of most ticket payload u r w
       → Ends v payload u.facts.has.slots u.facts.waits a w
-  ends-as v u w most ticket payload (resumed.Served k) a same none whole is e =
+  ends-as v u w most ticket payload (resumed.Served k) a follows none whole is (inl e) =
       let at_cell = ended serves state.Waiter most ticket payload k u w e in
       subst (λ x. Ends v payload u.facts.has.slots u.facts.waits x w) (sym is)
       (at_cell.cell, rests-at v u w _ _ _ _ none at_cell)
-  ends-as v u w most ticket payload (resumed.Left k) a same none whole is (inl e) =
+  ends-as v u w most ticket payload (resumed.Left k) a follows none whole is (inl (inl e)) =
       let at_cell = ended leaves state.Empty most ticket payload k u w e in
       subst (λ x. Ends v payload u.facts.has.slots u.facts.waits x w) (sym is)
       (inl at_cell.cell, rests-at v u w _ _ _ _ none at_cell)
-  ends-as v u w most ticket payload (resumed.Left k) a same none whole is (inr e) =
+  ends-as v u w most ticket payload (resumed.Left k) a follows none whole is (inl (inr e)) =
       let at_cell = ended delegates state.Cancelling most ticket payload k u w e in
       subst (λ x. Ends v payload u.facts.has.slots u.facts.waits x w) (sym is)
       (inr at_cell.cell, rests-at v u w _ _ _ _ none at_cell)
-  ends-as v u w most ticket payload (resumed.Refused k) a same none whole is e = absurd is
-  ends-as v u w most ticket payload (resumed.Under under) a same none whole is e =
+  ends-as v u w most ticket payload (resumed.Refused k) a follows none whole is (inl e) = absurd is
+  ends-as v u w most ticket payload (resumed.Under under) a follows none whole is (inl e) =
       subst (λ x. Ends v payload u.facts.has.slots u.facts.waits x w) (sym is)
-      (hands-back v u w most ticket payload under same none whole e)
+      (hands-back v u w most ticket payload under follows none whole e)
+  ends-as v u w most ticket payload r a follows none whole is (inr h) =
+      subst (λ x. Ends v payload u.facts.has.slots u.facts.waits x w) (sym (placed-held h.under r a h.is is))
+      (held-back v u w most payload r follows none h)
 
   pub ends-so : (v u w : View PoolEntry T) (most : ℕ) (ticket : Option ℕ) (payload : ℕ) (a : Placed)
-      → u.facts.passed ≡ v.facts.passed → u.facts.has.further ≡ 0 → IsWhole most ticket
+      → Follows v u → u.facts.has.further ≡ 0 → IsWhole most ticket
       → HasEnded most ticket payload u a w → Ends v payload u.facts.has.slots u.facts.waits a w
-  ends-so v u w most ticket payload a same none whole e =
-      ends-as v u w most ticket payload e.0 a same none whole e.1 e.2
+  ends-so v u w most ticket payload a follows none whole e =
+      ends-as v u w most ticket payload e.0 a follows none whole e.1 e.2
 
   -- its entries
   called-as : (u w : View PoolEntry T) (most : ℕ) (ticket : Option ℕ) (payload : ℕ) (r : Resumed) (a : Placed)
-      → IsPlacedAs r a → Resumes pool_object primitive_of most ticket payload u r w
+      → IsPlacedAs r a → GoesOn pool_object primitive_of most ticket payload u r w
       → Called pool_object u (placed_further payload a) (placed_further payload a) w × Onward u w
-  called-as u w most ticket payload (resumed.Served k) a is e =
+  called-as u w most ticket payload (resumed.Served k) a is (inl e) =
       let at_cell = ended serves state.Waiter most ticket payload k u w e in
       subst (λ x. Called pool_object u (placed_further payload x) (placed_further payload x) w × Onward u w) (sym is)
       (at_cell.called, at_cell.onward)
-  called-as u w most ticket payload (resumed.Left k) a is (inl e) =
+  called-as u w most ticket payload (resumed.Left k) a is (inl (inl e)) =
       let at_cell = ended leaves state.Empty most ticket payload k u w e in
       subst (λ x. Called pool_object u (placed_further payload x) (placed_further payload x) w × Onward u w) (sym is)
       (at_cell.called, at_cell.onward)
-  called-as u w most ticket payload (resumed.Left k) a is (inr e) =
+  called-as u w most ticket payload (resumed.Left k) a is (inl (inr e)) =
       let at_cell = ended delegates state.Cancelling most ticket payload k u w e in
       subst (λ x. Called pool_object u (placed_further payload x) (placed_further payload x) w × Onward u w) (sym is)
       (at_cell.called, at_cell.onward)
-  called-as u w most ticket payload (resumed.Refused k) a is e = absurd is
-  called-as u w most ticket payload (resumed.Under under) a is e =
+  called-as u w most ticket payload (resumed.Refused k) a is (inl e) = absurd is
+  called-as u w most ticket payload (resumed.Under under) a is (inl e) =
       let h = handed-back pool_object primitive_of quiet most ticket payload under u w e in
       subst (λ x. Called pool_object u (placed_further payload x) (placed_further payload x) w × Onward u w) (sym is)
       (h.called, h.onward)
+  called-as u w most ticket payload r a is (inr h) =
+      let on = held u w most payload r h in
+      subst (λ x. Called pool_object u (placed_further payload x) (placed_further payload x) w × Onward u w)
+      (sym (placed-held h.under r a h.is is)) (on.called, on.onward)
 
   pub ends-called : (u w : View PoolEntry T) (most : ℕ) (ticket : Option ℕ) (payload : ℕ) (a : Placed)
       → HasEnded most ticket payload u a w
       → Called pool_object u (placed_further payload a) (placed_further payload a) w × Onward u w
   ends-called u w most ticket payload a e = called-as u w most ticket payload e.0 a e.1 e.2
+
+  -- the numbers that were drawn go up
+  pub drawn-past : (reached : ℕ) (v w : View PoolEntry T) (most : ℕ) (ticket : Option ℕ) (payload : ℕ) (r : Resumed)
+      (a : Placed) → reached ≡ v.facts.reached → 1 < most → IsPlacedAs r a
+      → GoesOn pool_object primitive_of most ticket payload v r w → HasDrawnPast reached a
+  drawn-past reached v w most ticket payload (resumed.Served k) a last many is (inl e) =
+      subst (HasDrawnPast reached) (sym is) tt
+  drawn-past reached v w most ticket payload (resumed.Left k) a last many is (inl e) =
+      subst (HasDrawnPast reached) (sym is) tt
+  drawn-past reached v w most ticket payload (resumed.Refused k) a last many is (inl e) = absurd is
+  drawn-past reached v w most ticket payload (resumed.Under under) a last many is (inl e) =
+      subst (HasDrawnPast reached) (sym is) (λ none. let on = e.further many in omega arith)
+  drawn-past reached v w most ticket payload r a last many is (inr h) =
+      subst (HasDrawnPast reached) (sym (placed-held h.under r a h.is is))
+      (λ none. absurd (no-ticket h.number (sym h.ticket_is ∙ none)))
 
   -- the end of one that was handed back
   pub ends-rule : (v w : View PoolEntry T) (most : ℕ) (ticket : Option ℕ) (payload : ℕ) (a : Placed)

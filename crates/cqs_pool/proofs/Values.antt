@@ -1,5 +1,5 @@
 -- The value that a put hands in.
-use Rattle.std.proofs.Common.{◌≡◌, ◌∙◌, ℕ, ◌<◌, Bool, true, false, ◌++◌, ap, Some, arith}
+use Rattle.std.proofs.Common.{◌≡◌, ◌∙◌, ℕ, ◌<◌, Bool, true, false, ◌++◌, ap, sym, subst, Some, arith}
 use Rattle.cqs_pool_object.specs.declared.entries.PoolEntry.{PoolEntry}
 use Rattle.cqs_rule_laws.specs.declared.view.View.{View}
 use Rattle.cqs_rule_laws.specs.Lists.{IsPrefix}
@@ -26,4 +26,20 @@ module _ {T : Type 0} where
         old = h.old;
         now = (more.0, more.1 ∙ ap (λ l. l ++ more.0) h.is);
         off = less e h.off;
+      }
+
+  -- a claim before leaves the slot as it is
+  pub full-left : (kept : Bool) (e : ℕ) (v t : View PoolEntry T) → t.laid ≡ v.laid → IsFull kept e v → IsFull kept e t
+  full-left false e v t laid full = tt
+  full-left true e v t laid full = λ x is. full x (ap (λ l. laid_in l e) (sym laid) ∙ is)
+
+  pub gave-left : (kept : Bool) (e : ℕ) (v t w : View PoolEntry T) → t.laid ≡ v.laid → t.handed ≡ v.handed
+      → GaveValue kept e t w → GaveValue kept e v w
+  gave-left false e v t w laid handed gave = tt
+  gave-left true e v t w laid handed gave = λ y is.
+      let h = gave y (ap (λ l. laid_in l e) laid ∙ is) in record {
+        before = h.before;
+        old = subst (λ l. IsPrefix l h.before) handed h.old;
+        now = h.now;
+        off = h.off;
       }

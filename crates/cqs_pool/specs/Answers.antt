@@ -1,16 +1,19 @@
 -- What each call answers, and why.
-use Rattle.std.specs.Prelude.{◌≡◌, ◌⊎◌, ℕ, List, [], ◌∷◌, ◌++◌, Option, Some, None}
+use Rattle.std.specs.Prelude.{◌≡◌, ◌⊎◌, ℕ, ◌<◌, true, List, [], ◌∷◌, ◌++◌, Option, Some, None}
 use Rattle.cqs_core.specs.declared.cells.CoreState.TheVariants as state
 use Rattle.cqs_pool_object.specs.declared.entries.PoolEntry.{PoolEntry}
 use Rattle.cqs_pool_object.specs.declared.entries.PoolEntry.TheVariants as entry
 use Rattle.cqs_rule.specs.declared.queue.tokens.Under as token
 use Rattle.cqs_rule.specs.declared.queue.tokens.Wait.{Wait}
 use Rattle.cqs_rule_laws.specs.declared.view.Facts.{Facts}
+use Rattle.cqs_rule_laws.specs.declared.view.Sighting.TheVariants.{Word}
 use Rattle.cqs_rule_laws.specs.declared.view.View.{View}
 use Rattle.cqs_rule_laws.specs.Causes as laws
 use Rattle.cqs_rule_laws.specs.Causes.{PassedOver}
+use Rattle.cqs_rule_laws.specs.Layout.{suspends_place}
 use Rattle.cqs_rule_laws.specs.Lists.{Has, without}
-use Rattle.cqs_rule.specs.Owed.{HasUnder, under_payload}
+use Rattle.cqs_rule.specs.Claims.{WantsSlot, WasCrowded}
+use Rattle.cqs_rule.specs.Owed.{HasUnder, under_payload, under_ticket}
 use Rattle.cqs_rule.specs.Waits.{place_of, HasWait}
 use Rattle.cqs_pool.specs.declared.answers.Placed.{Placed}
 use Rattle.cqs_pool.specs.declared.answers.Placed.TheVariants.{Sent, Left, Under}
@@ -33,6 +36,10 @@ most_passed_over = 64
 abbrev pub IsInHand : ℕ → Facts → Type 0
 IsInHand e f = Has e f.has.slots
 
+-- a pass at these facts that loaded the suspend counter as n, below the limit, and did nothing else
+abbrev pub facts_below : ℕ → Facts → Facts
+facts_below n f = record f { may_draw = true; found = f.found ++ Word suspends_place n ∷ [] }
+
 module _ {T : Type 0} where
   -- A take was refused, as the limit was reached; or it wasn't.
   abbrev pub IsWorn : View PoolEntry T → View PoolEntry T → Type 0
@@ -40,6 +47,15 @@ module _ {T : Type 0} where
 
   abbrev pub IsBelow : View PoolEntry T → View PoolEntry T → Type 0
   IsBelow v w = laws.IsBelow drawn_in v w
+
+  -- A take was refused, as it needs two spare slots: it had loaded the suspend counter below the
+  -- limit, and so many numbers had been drawn in all that the pass has seen now. Then each slot was
+  -- seen not free. Nothing else was touched.
+  pub record IsCrowded (v w : View PoolEntry T) : Type 0 where
+    pub loaded : ℕ
+    pub below : loaded < v.limit
+    pub counted : laws.Counted drawn_in v loaded w.seen w
+    pub crowded : WasCrowded 2 (facts_below loaded v.facts) v w
 
   -- The cell of the number was found with an element, which the caller has; or it was empty, and
   -- the caller waits there.
@@ -52,10 +68,12 @@ module _ {T : Type 0} where
       CellWas state.Empty (place_of wait).index [] w × HasWait w wait
       × Rests v v.facts.has.slots (v.facts.waits ++ (place_of wait).index ∷ []) w
 
-  -- the resumption of this element was handed back, since so many numbers were passed over
+  -- The resumption of this element was handed back, since so many numbers were passed over, or
+  -- since there was no slot for the segment of its number.
   pub record HandsBack (v : View PoolEntry T) (e : ℕ) (under : token.Under)
       (elements waits : List ℕ) (w : View PoolEntry T) : Type 0 where
-    pub over : PassedOver most_passed_over v w
+    pub cause : ((under_ticket under ≡ None) × PassedOver most_passed_over v w)
+        ⊎ WantsSlot under v w
     pub owes : HasUnder w.facts under
     pub brings : under_payload under ≡ e
     pub further : w.facts.has.further ≡ 0

@@ -12,6 +12,7 @@ use Rattle.cqs_pool_object.specs.PoolShown.{PoolShape, IsPool}
 use Rattle.cqs_pool_object.specs.PoolSteps.{step_entries}
 use Rattle.cqs_rule_laws.specs.declared.config.CancelMode.TheVariants.{Smart}
 use Rattle.cqs_rule_laws.specs.declared.view.Has.{Has}
+use Rattle.cqs_rule_laws.specs.Configured.{largest_limit}
 use Rattle.cqs_rule_laws.specs.Hidden.{Hidden, Gains}
 use Rattle.cqs_rule_laws.specs.Lists.{IsDistinct, Has as In}
 use Rattle.cqs_rule_laws.specs.Manner.{Manner, passes_on, elements}
@@ -77,6 +78,7 @@ pool_primitive size = record {
   shows = shows_pool size;
   manner = pool_manner;
   words = [];
+  most_limit = largest_limit;
   values = size;
   held = 0;
   opens = λ has slot. In slot has.slots;

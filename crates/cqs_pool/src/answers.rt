@@ -24,7 +24,8 @@ pub enum Placed {
     /// It was left in the cell of this number: it is free there, or its taker is about to wait
     /// there, or is about to leave and will pass it on.
     Left(u64),
-    /// As many numbers were passed over as one call may; `finish` goes on.
+    /// As many numbers were passed over as one call may, or there is no slot for the segment of the
+    /// next; `finish` goes on.
     Under(Under),
 }
 

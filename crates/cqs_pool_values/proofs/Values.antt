@@ -1,6 +1,6 @@
 -- What lies in the slots, and what a pass has in hand, after the calls of the pool below.
 use Rattle.std.proofs.Common.{◌≡◌, ◌≢◌, ◌⊎◌, ℕ, ◌+◌, ◌==◌, ◌<◌, ◌≤◌, Bool, true, false, List, [], ◌∷◌, ◌++◌, sym, refl, ap, ◌∙◌, subst, inl, inr, arith, length, slice_get, Option, Some, None, if◌then◌else◌, Result, Ok, Err}
-use Rattle.std.specs.Prelude.{IfOk, OnOk, OnErr}
+use Rattle.std.specs.Prelude.{IfOk, IsErrOf, OnOk, OnErr}
 use Rattle.std.proofs.lemmas.Bool.{cases_lt}
 use Rattle.std.proofs.lemmas.List.{length_push}
 use Rattle.std.proofs.lemmas.Option.{same_Some}
@@ -10,7 +10,11 @@ use Rattle.cqs_core.proofs.Places.{get-below, get-there, get-append_below, get-p
 use Rattle.cqs_pool_object.specs.declared.entries.PoolEntry.{PoolEntry}
 use Rattle.cqs_rule.specs.declared.queue.tokens.Under as token
 use Rattle.cqs_rule_laws.specs.declared.carries.Kept.{Kept}
+use Rattle.cqs_rule_laws.specs.declared.config.AcquireError.{AcquireError}
+use Rattle.cqs_rule_laws.specs.declared.config.AcquireError.TheVariants.{Worn, Crowded}
+use Rattle.cqs_rule_laws.specs.declared.view.Spare.{Spare}
 use Rattle.cqs_rule_laws.specs.declared.view.View.{View}
+use Rattle.cqs_rule_laws.specs.SegmentSteps.{LeftBy}
 use Rattle.cqs_rule_laws.specs.Lists.{Has, IsPrefix, without}
 use Rattle.cqs_rule_laws.specs.Slots.{laid_in, handed_in, or_else, LaysNone}
 use Rattle.cqs_rule_laws.specs.SlotSteps.{LayIn, LaysValue, Swapped}
@@ -19,7 +23,7 @@ use Rattle.cqs_rule_laws.proofs.Lists.{without_has, prefix-then}
 use Rattle.cqs_pool.specs.declared.answers.Placed.{Placed}
 use Rattle.cqs_pool.specs.declared.answers.Placed.TheVariants.{Sent, Left, Under}
 use Rattle.cqs_pool.specs.declared.answers.PoolLeft.TheVariants.{Cancelled}
-use Rattle.cqs_pool.specs.Answers.{Ends, LeavesPass}
+use Rattle.cqs_pool.specs.Answers.{Ends, IsCrowded, IsWorn, LeavesPass}
 use Rattle.cqs_pool.specs.Pool.{HasEach}
 use Rattle.cqs_pool_values.specs.Pools.{IsFilled, AreFilled, HoldsEach, IsTidy}
 use Rattle.cqs_pool_values.specs.Values.{in_slot}
@@ -108,6 +112,11 @@ module _ {S : Type 0} where
       ap (λ (z : View PoolEntry S). laid_in z.laid j) swap.is
       ∙ (passed-by e j (Some x) (laid_in v.laid j) apart ∙ tidy j none')
 
+  -- a claim leaves what it has in hand, and what it has laid into slots
+  pub tidy-left : (v t : View PoolEntry S) (heads : List (ℕ × ℕ)) (spares : List Spare) (duties : List ℕ)
+      → IsTidy v → LeftBy heads spares duties v t → IsTidy t
+  tidy-left v t heads spares duties tidy left = subst IsTidy (sym left.is) tidy
+
   -- and stays tidy where it puts the element, and nothing lies there any more
   pub tidy-put : (e : ℕ) (v w : View PoolEntry S) → IsTidy v → LaysNone v.laid w.laid
       → w.facts.has.slots ≡ without e v.facts.has.slots → laid_in w.laid e ≡ None → IsTidy w
@@ -122,6 +131,19 @@ module _ {S : Type 0} where
   ends-slots v w e elements waits (Sent k) t = t.1.elements_are
   ends-slots v w e elements waits (Left k) t = t.1.elements_are
   ends-slots v w e elements waits (Under under) t = t.elements_are
+
+  -- after a take that was refused
+  pub refused-slots : {A : Type 0} (e : AcquireError) (v w : View PoolEntry S)
+      → (IsErrOf {T = A} (Err e) Worn → IsWorn v w) → (IsErrOf {T = A} (Err e) Crowded → IsCrowded v w)
+      → w.facts.has.slots ≡ v.facts.has.slots
+  refused-slots Worn v w worn crowded = ap (λ f. f.has.slots) (worn refl).facts_are
+  refused-slots Crowded v w worn crowded = ap (λ f. f.has.slots) (crowded refl).crowded.facts_are
+
+  pub refused-waits : {A : Type 0} (e : AcquireError) (v w : View PoolEntry S)
+      → (IsErrOf {T = A} (Err e) Worn → IsWorn v w) → (IsErrOf {T = A} (Err e) Crowded → IsCrowded v w)
+      → w.facts.waits ≡ v.facts.waits
+  refused-waits Worn v w worn crowded = ap (λ f. f.waits) (worn refl).facts_are
+  refused-waits Crowded v w worn crowded = ap (λ f. f.waits) (crowded refl).crowded.facts_are
 
   -- and after a cancel that left the line
   pub leaves-slots : (k : ℕ) (v w : View PoolEntry S) (under : Option token.Under)
@@ -169,6 +191,13 @@ module _ {T : Type 0} where
       → HoldsEach values handed → AreFilled size handed
   all-held values size handed is holds e low =
       let t = get-there values e (omega arith) in (in_slot t.0, holds e t.0 t.1)
+
+-- an error that is given on
+pub same-error : {A B : Type 0} (e x : AcquireError) → IsErrOf {T = A} (Err e) x → IsErrOf {T = B} (Err e) x
+same-error Worn Worn is = refl
+same-error Crowded Crowded is = refl
+same-error Worn Crowded is = absurd (cc)
+same-error Crowded Worn is = absurd (cc)
 
 -- an answer that is given on
 pub if-ok : {A X : Type 0} (r : Result A X) (P Q R : A → Type 0) → ((a : A) → P a → Q a → R a) → IfOk r P → IfOk r Q

@@ -1,14 +1,16 @@
 -- The calls of a pool of values: each is the call of the same name of the pool below, at which the
 -- pass was at a view in between; and where the caller has an item then, or gives one back, its
 -- value moves.
-use Rattle.std.specs.Prelude.{◌≡◌, ℕ, true, [], ◌∷◌, ◌++◌, Result, Ok, Err, IfOk, OnOk, OnErr}
+use Rattle.std.specs.Prelude.{◌≡◌, ℕ, true, [], ◌∷◌, ◌++◌, Result, Ok, Err, IfOk, IsErrOf, OnOk}
 use Rattle.cqs_pool_object.specs.declared.entries.PoolEntry.{PoolEntry}
 use Rattle.cqs_pool_object.specs.declared.entries.PoolEntry.TheVariants as entry
 use Rattle.cqs_rule_laws.specs.declared.config.AcquireError.{AcquireError}
+use Rattle.cqs_rule_laws.specs.declared.config.AcquireError.TheVariants as refused
 use Rattle.cqs_rule.specs.declared.queue.tokens.Wait.{Wait}
 use Rattle.cqs_rule_laws.specs.declared.carries.Kept.{Kept}
 use Rattle.cqs_rule_laws.specs.declared.view.View.{View}
 use Rattle.cqs_rule_laws.specs.Lists.{without}
+use Rattle.cqs_rule.specs.Claims.{Claimed}
 use Rattle.cqs_rule.specs.Owed.{HasUnder}
 use Rattle.cqs_rule.specs.Waits.{HasWait, place_of}
 use Rattle.cqs_pool.specs.declared.answers.Placed.{Placed}
@@ -20,7 +22,7 @@ use Rattle.cqs_pool.specs.declared.answers.PoolPolled.TheVariants as polled
 use Rattle.cqs_pool.specs.declared.answers.Taking.{Taking}
 use Rattle.cqs_pool.specs.declared.answers.Taking.TheVariants as taking
 use Rattle.cqs_pool.specs.Alone.{IsPlainTake, IsPlainPut, IsPlainPoll, IsPlainCancel, IsOnlyCaller, TakesFirst, TakesNew, PollsNew, CancelsNew}
-use Rattle.cqs_pool.specs.Answers.{IsWorn, IsBelow, Takes, Ends, IsPolled, LeavesPass}
+use Rattle.cqs_pool.specs.Answers.{IsWorn, IsBelow, IsCrowded, Takes, Ends, IsPolled, LeavesPass}
 use Rattle.cqs_pool.specs.Calls.{Rests, CallRule}
 use Rattle.cqs_pool.specs.Entries.{took_entries, took_further, polled_entries, placed_further}
 use Rattle.cqs_pool.specs.Steps.{HasCancelled}
@@ -103,7 +105,8 @@ module _ {T : Type 0} where
     pub between : View PoolEntry (Kept T)
     pub called : CallRule v (took_entries v.number (as_answer answer))
         (took_further (as_answer answer)) between
-    pub worn : OnErr answer (IsWorn v between)
+    pub worn : IsErrOf answer refused.Worn → IsWorn v between
+    pub crowded : IsErrOf answer refused.Crowded → IsCrowded v between
     pub below : OnOk answer (IsBelow v between)
     pub took : IfOk answer (λ came. Takes v (as_taking came) between)
     pub alone : v.alone ≡ true → IfOk answer (λ came. IsPlainTake v (as_taking came))
@@ -131,11 +134,14 @@ module _ {T : Type 0} where
     pub new : CancelsNew v (as_left answer)
     pub value : LeftValue answer between w
 
-  -- A put of the element e lays the value into its slot, and is one of the pool below then.
+  -- A put of the element e claims a slot where the pass has none spare, lays the value into its
+  -- value slot, and is one of the pool below then.
   pub record HasPut (e : ℕ) (value : T) (v : View PoolEntry (Kept T)) (answer : Placed)
       (w : View PoolEntry (Kept T)) : Type 0 where
+    pub claimed : View PoolEntry (Kept T)
+    pub claims : Claimed 1 v claimed
     pub between : View PoolEntry (Kept T)
-    pub laid : LaidValue e value v between
+    pub laid : LaidValue e value claimed between
     pub called : CallRule between (entry.Put between.number e ∷ []) (placed_further e answer) w
     pub ends : Ends between e (without e between.facts.has.slots) between.facts.waits answer w
     pub alone : v.alone ≡ true → IsPlainPut between answer w

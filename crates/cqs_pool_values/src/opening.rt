@@ -2,8 +2,8 @@
 
 ghost use Rattle.std.specs.Prelude.{◌≡◌, ◌⊎◌, ◌+◌, ◌*◌, ◌/◌, ◌<◌, ◌≤◌, [], true, false, IfOk, IfErr, length, vec_len};
 ghost use mathlib.Core.Logic.{◌↔◌};
-ghost use Rattle.cqs_rule_laws.specs.Configured.{is_config};
-ghost use Rattle.cqs_rule.specs.Passes.{pass_view};
+ghost use Rattle.cqs_rule_laws.specs.Configured.{is_config, is_small_config};
+ghost use Rattle.cqs_rule.specs.Passes.{ample_of, pass_view};
 ghost use Rattle.cqs_rule_laws.specs.SlotSteps.{Swapped};
 ghost use Rattle.cqs_pool.specs.Calls.{IsMine, size_of};
 ghost use Rattle.cqs_pool_values.specs.Pools.{Belongs, Opens, HoldsEach, IsBadConfig};
@@ -28,6 +28,8 @@ impl<T: Send + Drop> ValuePool<T> {
     /// A pool of these values, all of them free, and its first pass, which has number 0 and has
     /// seen nothing. The value at a place belongs to the element of that number. There are from 1
     /// to 4,096, and `slots` has room for their cells. Where no pool is made, the values come back.
+    /// `slots` says for how many waiters at once: some `(values + waiters) / 32 + 2 * passes + 3`
+    /// are wanted.
     pub fn new(
         alloc: Global,
         values: Vec<T>,
@@ -40,6 +42,7 @@ impl<T: Send + Drop> ValuePool<T> {
         ensures back { IfErr result (λ refused. refused.0 ≡ values) }
         ensures belongs { IfOk result (λ made. Belongs made.0 made.1) }
         ensures opens { IfOk result (λ made. Opens values.items config made.0 made.1) }
+        ensures slots { IfOk result (λ made. (pass_view made.1).slots ≡ config.slots) }
     {
         if values.len() > MOST_ELEMENTS {
             return Err((values, MakeError::BadConfig));
@@ -47,6 +50,33 @@ impl<T: Send + Drop> ValuePool<T> {
         let (pool, mut pass) = match Pool::with_slots(alloc, values.len() as u32, config) {
             Ok(made) => made,
             Err(error) => return Err((values, error)),
+        };
+        fill(&pool, &mut pass, values);
+        Ok((ValuePool { pool }, pass))
+    }
+
+    /// The same on a table with slots for all segments that can ever be wanted, however few
+    /// `config` asks for: no call of it is crowded, and its memory grows with the limit.
+    pub fn ample(
+        alloc: Global,
+        values: Vec<T>,
+        config: Config,
+    ) -> Result<(ValuePool<T>, ValuePass<T>), (Vec<T>, MakeError)>
+        ensures bad_config { IsBadConfig result
+            ↔ ((length values.items ≡ 0) ⊎ (4096 < length values.items)
+            ⊎ (config.slots < 2 * config.passes + 2 + length values.items / 32 + 1)
+            ⊎ (is_small_config config ≡ false)) }
+        ensures back { IfErr result (λ refused. refused.0 ≡ values) }
+        ensures belongs { IfOk result (λ made. Belongs made.0 made.1) }
+        ensures opens { IfOk result (λ made. Opens values.items config made.0 made.1) }
+        ensures ample { IfOk result (λ made. ample_of made.0.pool.queue ≡ true) }
+    {
+        if values.len() > MOST_ELEMENTS {
+            return Err((values, MakeError::BadConfig));
+        }
+        let (pool, mut pass) = match Pool::with_slots_ample(alloc, values.len() as u32, config) {
+            Ok(made) => made,
+            Err(refused) => return Err((values, refused)),
         };
         fill(&pool, &mut pass, values);
         Ok((ValuePool { pool }, pass))

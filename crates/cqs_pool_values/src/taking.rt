@@ -1,7 +1,7 @@
 //! The take, and how a value leaves its slot.
 
-ghost use Rattle.std.specs.Prelude.{◌≡◌, None, IsErrOf};
-ghost use Rattle.cqs_rule.specs.Passes.{pass_view};
+ghost use Rattle.std.specs.Prelude.{◌≡◌, true, None, IsErrOf};
+ghost use Rattle.cqs_rule.specs.Passes.{ample_of, pass_view};
 ghost use Rattle.cqs_rule_laws.specs.Slots.{laid_in};
 ghost use Rattle.cqs_pool.specs.Answers.{IsInHand};
 ghost use Rattle.cqs_rule_laws.specs.CallRule.{IsReady};
@@ -20,7 +20,8 @@ use cqs_rule::{AcquireError, Kept};
 
 impl<T: Send + Drop> ValuePool<T> {
     /// An item where the cell of the next number has an element, or else a wait for one. It is
-    /// refused as worn where as many numbers were drawn as the limit allows, even if one is free.
+    /// refused as worn where as many numbers were drawn as the limit allows, even if one is free;
+    /// and as crowded where the pass has fewer than two slots spare and each was seen not free.
     pub fn take(&self, pass: &mut ValuePass<T>) -> Result<ItemTaking<T>, AcquireError>
         requires belongs { Belongs self.now pass.old }
         requires ready { IsReady (pass_view pass.old).facts }
@@ -28,7 +29,8 @@ impl<T: Send + Drop> ValuePool<T> {
         ensures taken { HasTaken (pass_view pass.old) result (pass_view pass.new) }
         ensures leaves { TakenLeaves (pass_view pass.old) result (pass_view pass.new) }
         ensures ready { IsReady (pass_view pass.new).facts }
-        ensures never_crowded { ¬ IsErrOf result AcquireError.Crowded }
+        ensures never_crowded { ample_of self.now.pool.queue ≡ true
+            → ¬ IsErrOf result AcquireError.Crowded }
     {
         match self.pool.take(pass) {
             Ok(Taking::Took(element)) => Ok(ItemTaking::Took(self.take_out(pass, element))),

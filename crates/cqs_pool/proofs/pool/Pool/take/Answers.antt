@@ -6,7 +6,7 @@ use Rattle.cqs_rule_laws.proofs.Rules.{call-rule_own}
 use Rattle.cqs_pool.specs.Causes.{drawn_in}
 use Rattle.cqs_pool.specs.Pool.{pool_object}
 use Rattle.cqs_pool.proofs.Counters.{next-is, next-count}
-use Rattle.cqs_pool.proofs.TakeSteps.{loaded-called, took-called, took-below, took-cell, took-rests, waits-called, waits-below, waits-cell, waits-rests}
+use Rattle.cqs_pool.proofs.TakeSteps.{loaded-called, crowded-called, is-crowded, prepared, took-called, took-below, took-cell, took-rests, waits-called, waits-below, waits-cell, waits-rests}
 use Rattle.cqs_pool.proofs.pool.Pool.take.Goals as goal
 
 pub returns-then-load_table-limit-clause-called : goal.returns-then-load_table-limit-clause-called
@@ -16,7 +16,7 @@ returns-then-load_table-limit-clause-called g c =
     c.load_table.ensures.belongs.live.legal
 
 pub returns-then-load_table-limit-clause-worn : goal.returns-then-load_table-limit-clause-worn
-returns-then-load_table-limit-clause-worn g c =
+returns-then-load_table-limit-clause-worn g c = λ is_worn.
     let limit = c.limit.ensures in
     let is = c.requires.belongs.limit in
     let high = c.if-load_table-limit.true in
@@ -25,7 +25,11 @@ returns-then-load_table-limit-clause-worn g c =
 
 pub returns-in-Waits-clause-called : goal.returns-in-Waits-clause-called
 returns-in-Waits-clause-called g c =
-    waits-called _ _ _ _ (place_of c.in-Waits.wait).index (next-is _ _ _ c.load_table.ensures.saw)
+    let limit = c.limit.ensures in
+    let is = c.requires.belongs.limit in
+    let low = c.if-load_table-limit.false in
+    waits-called _ _ _ (place_of c.in-Waits.wait).index (prepared _ _ _ _ (omega arith)
+    (next-is _ _ _ c.load_table.ensures.saw) c.in-Ok.ensures.claimed)
     c.in-Waits.ensures.entered.0 c.requires.belongs.live.own c.in-Waits.ensures.belongs.live.legal
 
 pub returns-in-Waits-clause-below : goal.returns-in-Waits-clause-below
@@ -33,20 +37,30 @@ returns-in-Waits-clause-below g c =
     let limit = c.limit.ensures in
     let is = c.requires.belongs.limit in
     let low = c.if-load_table-limit.false in
-    waits-below _ _ _ _ (place_of c.in-Waits.wait).index (next-is _ _ _ c.load_table.ensures.saw) (omega arith)
+    waits-below _ _ _ (place_of c.in-Waits.wait).index (prepared _ _ _ _ (omega arith)
+    (next-is _ _ _ c.load_table.ensures.saw) c.in-Ok.ensures.claimed)
     c.in-Waits.ensures.entered.0
 
 pub returns-in-Waits-clause-took : goal.returns-in-Waits-clause-took
 returns-in-Waits-clause-took g c =
+    let limit = c.limit.ensures in
+    let is = c.requires.belongs.limit in
+    let low = c.if-load_table-limit.false in
     let k = (place_of c.in-Waits.wait).index in (
       waits-cell _ _ k c.in-Waits.ensures.entered.0,
       c.in-Waits.ensures.entered.1,
-      waits-rests _ _ _ _ k (next-is _ _ _ c.load_table.ensures.saw) c.requires.ready c.in-Waits.ensures.entered.0,
+      waits-rests _ _ _ k (prepared _ _ _ _ (omega arith)
+          (next-is _ _ _ c.load_table.ensures.saw) c.in-Ok.ensures.claimed)
+          c.requires.ready c.in-Waits.ensures.entered.0,
     )
 
 pub returns-in-Took-clause-called : goal.returns-in-Took-clause-called
 returns-in-Took-clause-called g c =
-    took-called _ _ _ _ c.in-Took.number c.in-Took.payload (next-is _ _ _ c.load_table.ensures.saw)
+    let limit = c.limit.ensures in
+    let is = c.requires.belongs.limit in
+    let low = c.if-load_table-limit.false in
+    took-called _ _ _ c.in-Took.number c.in-Took.payload (prepared _ _ _ _ (omega arith)
+    (next-is _ _ _ c.load_table.ensures.saw) c.in-Ok.ensures.claimed)
     c.in-Took.ensures.entered c.requires.belongs.live.own c.in-Took.ensures.belongs.live.legal
 
 pub returns-in-Took-clause-below : goal.returns-in-Took-clause-below
@@ -54,15 +68,20 @@ returns-in-Took-clause-below g c =
     let limit = c.limit.ensures in
     let is = c.requires.belongs.limit in
     let low = c.if-load_table-limit.false in
-    took-below _ _ _ _ c.in-Took.number c.in-Took.payload (next-is _ _ _ c.load_table.ensures.saw) (omega arith)
+    took-below _ _ _ c.in-Took.number c.in-Took.payload (prepared _ _ _ _ (omega arith)
+    (next-is _ _ _ c.load_table.ensures.saw) c.in-Ok.ensures.claimed)
     c.in-Took.ensures.entered
 
 pub returns-in-Took-clause-took : goal.returns-in-Took-clause-took
-returns-in-Took-clause-took g c = (
-  took-cell _ _ c.in-Took.number c.in-Took.payload c.in-Took.ensures.entered,
-  took-rests _ _ _ _ c.in-Took.number c.in-Took.payload (next-is _ _ _ c.load_table.ensures.saw) c.requires.ready
-      c.in-Took.ensures.entered,
-)
+returns-in-Took-clause-took g c =
+    let limit = c.limit.ensures in
+    let is = c.requires.belongs.limit in
+    let low = c.if-load_table-limit.false in (
+      took-cell _ _ c.in-Took.number c.in-Took.payload c.in-Took.ensures.entered,
+      took-rests _ _ _ c.in-Took.number c.in-Took.payload (prepared _ _ _ _ (omega arith)
+          (next-is _ _ _ c.load_table.ensures.saw) c.in-Ok.ensures.claimed)
+          c.requires.ready c.in-Took.ensures.entered,
+    )
 
 pub returns-in-Took-clause-alone : goal.returns-in-Took-clause-alone
 returns-in-Took-clause-alone g c = λ alone.
@@ -84,3 +103,17 @@ pub returns-in-Took-clause-new : goal.returns-in-Took-clause-new
 returns-in-Took-clause-new g c =
     new-one _ c.in-Took.payload _ _ c.in-Took.ensures.belongs.live.known
     (returns-in-Took-clause-took g c).1.elements_are
+
+-- each slot was seen not free
+pub returns-in_default-clause-called : goal.returns-in_default-clause-called
+returns-in_default-clause-called g c =
+    call-rule_own pool_object _ _ [] []
+    (crowded-called _ _ _ _ (next-is _ _ _ c.load_table.ensures.saw) c.in_default.ensures.crowded) tt
+    c.requires.belongs.live.own c.in_default.ensures.belongs.live.legal
+
+pub returns-in_default-clause-crowded : goal.returns-in_default-clause-crowded
+returns-in_default-clause-crowded g c = λ was.
+    let limit = c.limit.ensures in
+    let is = c.requires.belongs.limit in
+    let low = c.if-load_table-limit.false in
+    is-crowded _ _ _ _ (omega arith) (next-is _ _ _ c.load_table.ensures.saw) c.in_default.ensures.crowded

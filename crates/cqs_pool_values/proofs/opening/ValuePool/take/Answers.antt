@@ -1,7 +1,7 @@
-use Rattle.std.proofs.Common.{sym, refl, subst, inl, inr, ap}
+use Rattle.std.proofs.Common.{sym, refl, subst, inl, inr}
 use Rattle.cqs_rule_laws.specs.Lists.{Has}
 use Rattle.cqs_rule.specs.Passes.{pass_view}
-use Rattle.cqs_pool_values.proofs.Values.{all-filled, tidy-then, tidy-same}
+use Rattle.cqs_pool_values.proofs.Values.{all-filled, tidy-then, tidy-same, refused-slots, refused-waits, same-error}
 use Rattle.cqs_pool_values.proofs.opening.ValuePool.take.Goals as goal
 
 pub take_out-requires-clause-filled : goal.take_out-requires-clause-filled
@@ -47,7 +47,8 @@ returns-in-Err-clause-belongs g c =
     let rule = c.take.ensures.called.called in record {
       mine = c.take.ensures.belongs;
       filled = all-filled _ _ _ b.filled rule.handed;
-      tidy = tidy-same v w b.tidy rule.unlaid (ap (λ f. f.has.slots) c.in-Err.ensures.worn.facts_are);
+      tidy = tidy-same v w b.tidy rule.unlaid
+          (refused-slots _ _ _ c.in-Err.ensures.worn c.in-Err.ensures.crowded);
     }
 
 pub returns-in-Ok-Took-clause-taken : goal.returns-in-Ok-Took-clause-taken
@@ -57,7 +58,8 @@ returns-in-Ok-Took-clause-taken g c =
     let same = sym c.take_out.ensures.element in record {
       between = pass_view c.take.new.pass;
       called = rw (is, same) at e.called;
-      worn = tt;
+      worn = λ is. absurd (cc);
+      crowded = λ is. absurd (cc);
       below = e.below;
       took = rw (is, same) at e.took;
       alone = λ alone. rw (is, same) at (e.alone alone);
@@ -72,10 +74,33 @@ returns-in-Ok-Later-clause-taken g c =
     let e = c.in-Ok-Later.ensures in record {
       between = pass_view c.take.new.pass;
       called = rw is at e.called;
-      worn = tt;
+      worn = λ is. absurd (cc);
+      crowded = λ is. absurd (cc);
       below = e.below;
       took = rw is at e.took;
       alone = λ alone. rw is at (e.alone alone);
+      new = tt;
+      first = λ only. tt;
+      value = refl;
+    }
+
+pub returns-in-Err-clause-leaves : goal.returns-in-Err-clause-leaves
+returns-in-Err-clause-leaves g c = record {
+  ready = c.take.ensures.ready;
+  elements_are = refused-slots _ _ _ c.in-Err.ensures.worn c.in-Err.ensures.crowded;
+  waits_are = refused-waits _ _ _ c.in-Err.ensures.worn c.in-Err.ensures.crowded;
+}
+
+pub returns-in-Err-clause-taken : goal.returns-in-Err-clause-taken
+returns-in-Err-clause-taken g c =
+    let e = c.in-Err.ensures in record {
+      between = pass_view c.take.new.pass;
+      called = e.called;
+      worn = λ is. e.worn (same-error _ _ is);
+      crowded = λ is. e.crowded (same-error _ _ is);
+      below = tt;
+      took = tt;
+      alone = λ alone. tt;
       new = tt;
       first = λ only. tt;
       value = refl;

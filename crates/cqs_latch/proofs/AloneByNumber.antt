@@ -8,6 +8,7 @@ use Rattle.cqs_core.specs.Numbered.{IsIn}
 use Rattle.cqs_core.specs.QueueAsRefused.{as_refused}
 use Rattle.cqs_core.specs.QueueLine.{Waiting, ending, is_told_refused}
 use Rattle.cqs_core.specs.QueueSound.{IsSound}
+use Rattle.cqs_core.specs.QueueSteps.{begins}
 use Rattle.cqs_core.specs.QueueState.{Queue}
 use Rattle.cqs_core.specs.QueueWaiters.{Waiters, waiters, is_reached}
 use Rattle.cqs_core.specs.Resting.{IsIdle}
@@ -23,7 +24,7 @@ use Rattle.cqs_latch_object.specs.LatchShown.{holes, holes_shown, read_as}
 use Rattle.cqs_latch_object.proofs.Holes.{length-holes, number}
 use Rattle.cqs_resume.specs.declared.at_once.EndedAtOnce.{EndedAtOnce}
 use Rattle.cqs_resume.specs.declared.at_once.EndedAtOnce.TheVariants as once
-use Rattle.cqs_resume.specs.AtOnce.{BegunAtOnce, FinishedAtOnce}
+use Rattle.cqs_resume.specs.AtOnce.{DrewAndMet, FinishedOrHeld, MeetsOrHolds}
 use Rattle.cqs_rule.specs.declared.queue.tokens.Under.{Under}
 use Rattle.cqs_rule.specs.Owed.{under_payload, under_ticket}
 use Rattle.cqs_rule_laws.specs.declared.config.CancelMode.TheVariants.{Simple}
@@ -43,7 +44,7 @@ use Rattle.cqs_latch.specs.Waking.{Ending, served_at, left_at, missed_at, ending
 use Rattle.cqs_latch.proofs.AloneHoles.{first-hole, hole-apart, hole-drawn, holes-ahead, holes-rise, missed-behind, served-behind}
 use Rattle.cqs_latch.proofs.AloneOpen.{all-idle, no-more, none-due, shows-plain_after}
 use Rattle.cqs_latch.proofs.AloneOrder.{after-alone, allowed-last, rising-line, seen-alone}
-use Rattle.cqs_latch.proofs.WakeSteps.{never-under, next-ran, on-ran, woken-append}
+use Rattle.cqs_latch.proofs.WakeSteps.{finished-only, next-handed, next-ran, on-handed_back, on-ran, once-only, woken-append}
 
 all-above : {Y : Type 0} (key : Y → ℕ) (n : ℕ) (ys : List Y) → ((y : Y) → IsIn y ys → n < key y) → AllAbove key n ys
 all-above key n [] above = tt
@@ -202,28 +203,32 @@ module _ {T : Type 0} where
         }
 
     -- a resumption was begun, or one went on that had been handed back, and ended
-    pub begun-ends : (r : EndedAtOnce) → BegunAtOnce latch_object primitive_of 0 v r w → EndsFirst [] v w
+    pub begun-ends : (r : EndedAtOnce)
+        → DrewAndMet latch_object primitive_of begins (MeetsOrHolds latch_object primitive_of) 0 v r w
+        → EndsFirst [] v w
     begun-ends (once.Served k) b =
-        let r = (next-ran (served_at k) v w (inr b)).1 in
+        let r = (next-ran (served_at k) v w (inr (once-only begins 0 v w _ (λ under is. cc) b))).1 in
         ends-served k r.along.called r.idle
-    begun-ends (once.Left k) b = ends-none v w (next-ran (left_at k) v w (inr b)).1.along.called alone
+    begun-ends (once.Left k) b =
+        let r = (next-ran (left_at k) v w (inr (once-only begins 0 v w _ (λ under is. cc) b))).1 in
+        ends-none v w r.along.called alone
     begun-ends (once.Missed k) b =
-        let r = (next-ran (missed_at k) v w b).1 in
+        let r = (next-ran (missed_at k) v w (once-only begins 0 v w _ (λ under is. cc) b)).1 in
         ends-missed k r.along.called r.idle
-    begun-ends (once.Under under) b = absurd b.meets
+    begun-ends (once.Under under) b = ends-none v w (next-handed under v w (inr b)).along.called alone
 
     pub finished-ends : (under : Under) (r : EndedAtOnce)
-        → FinishedAtOnce latch_object primitive_of (under_ticket under) (under_payload under) v r w → EndsFirst [] v w
+        → FinishedOrHeld latch_object primitive_of (under_ticket under) (under_payload under) v r w → EndsFirst [] v w
     finished-ends under (once.Served k) f =
-        let r = (on-ran under (served_at k) v w (inr f)).1 in
+        let r = (on-ran under (served_at k) v w (inr (finished-only _ _ v w _ (λ u is. cc) f))).1 in
         ends-served k r.along.called r.idle
     finished-ends under (once.Left k) f =
-        ends-none v w (on-ran under (left_at k) v w (inr f)).1.along.called alone
+        ends-none v w (on-ran under (left_at k) v w (inr (finished-only _ _ v w _ (λ u is. cc) f))).1.along.called alone
     finished-ends under (once.Missed k) f =
-        let r = (on-ran under (missed_at k) v w f).1 in
+        let r = (on-ran under (missed_at k) v w (finished-only _ _ v w _ (λ u is. cc) f)).1 in
         ends-missed k r.along.called r.idle
     finished-ends under (once.Under again) f =
-        absurd (never-under (under_ticket under) (under_payload under) again v w f)
+        ends-none v w (on-handed_back under again v w (inr f)).along.called alone
 
   -- one after the other
   pub ends-then : (own : List LatchEntry) (v u w : View LatchEntry T) → EndsFirst own v u → EndsFirst [] u w
@@ -277,13 +282,18 @@ module _ {T : Type 0} where
             (after-alone v x own c alone));
       }
 
+  -- the last count down ends so many of them
+  pub opened-ends : (v x w : View LatchEntry T) (many : ℕ) → Opens v many x → (x.alone ≡ true → EndsFirst [] x w)
+      → v.alone ≡ true → EndsFirst (entry.DownLast v.number ∷ entry.Open v.number ∷ []) v w
+  opened-ends v x w many o ends alone =
+      ends-then (entry.DownLast v.number ∷ entry.Open v.number ∷ []) v x w (opens-none v x many o alone)
+      (ends (o.called.called.same.alone ∙ alone))
+
   pub opened-by_number : (v x w : View LatchEntry T) (many : ℕ) → Opens v many x
       → (x.alone ≡ true → EndsFirst [] x w) → v.alone ≡ true → TellsAlone primitive_of w → w.weight ≡ 1 → w.alone ≡ true
       → w.opening.mode ≡ Simple → IsReady w.facts → (plain_after w).opened ≡ true → OpensByNumber v down.Last w
   opened-by_number v x w many o ends alone tells one still simple ready is_open =
-      let own : List LatchEntry = entry.DownLast v.number ∷ entry.Open v.number ∷ [] in
-      all-ended own v w (ends-then own v x w (opens-none v x many o alone)
-      (ends (o.called.called.same.alone ∙ alone)))
+      all-ended (entry.DownLast v.number ∷ entry.Open v.number ∷ []) v w (opened-ends v x w many o ends alone)
       (none-ends w (tells one still) simple ready is_open)
 
   pub finished-by_number : (v w : View LatchEntry T) → EndsFirst [] v w → TellsAlone primitive_of w → w.weight ≡ 1

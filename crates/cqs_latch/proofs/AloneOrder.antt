@@ -16,8 +16,8 @@ use Rattle.cqs_latch_object.specs.LatchObject.{Latch, opening}
 use Rattle.cqs_latch_object.specs.LatchShown.{as_read}
 use Rattle.cqs_resume.specs.declared.resumed.Resumed.{Resumed}
 use Rattle.cqs_resume.specs.declared.resumed.Resumed.TheVariants as resumed
-use Rattle.cqs_resume.specs.Begins.{Begun}
-use Rattle.cqs_resume.specs.Resumes.{Resumes, most_passed_over}
+use Rattle.cqs_resume.specs.Begins.{BegunSo}
+use Rattle.cqs_resume.specs.Resumes.{GoesOn, most_passed_over}
 use Rattle.cqs_rule.specs.declared.queue.tokens.Under.{Under}
 use Rattle.cqs_rule_laws.specs.declared.view.Opening.{Opening}
 use Rattle.cqs_rule_laws.specs.declared.view.View.{View}
@@ -33,7 +33,7 @@ use Rattle.cqs_latch.specs.Latch.{is_simple, latch_object, latch_shown}
 use Rattle.cqs_latch.specs.LatchMade.{count_of, mode_of}
 use Rattle.cqs_latch.specs.Waking.{served_at, left_at, refused_at}
 use Rattle.cqs_latch.proofs.AloneOpen.{all-idle, object_of, shows-plain_after}
-use Rattle.cqs_latch.proofs.WakeSteps.{next-handed, next-ran, on-ran, stopped-handed}
+use Rattle.cqs_latch.proofs.WakeSteps.{begun-only, ended-only, next-handed, next-ran, on-handed_back, on-ran}
 
 pub delivers-append : (ks more : List ℕ) → delivers ks ++ delivers more ≡ delivers (ks ++ more)
 delivers-append [] more = refl
@@ -125,29 +125,31 @@ module _ {T : Type 0} where
         serves-one v w k c legal (tells one alone) (tells' one' (c.same.alone ∙ alone)) idle alone
 
     -- a resumption was begun, and ended or was handed back
-    pub begun-serves : (r : Resumed) → Begun latch_object primitive_of 0 v r w → v.alone ≡ true → ServesFirst [] v w
+    pub begun-serves : (r : Resumed) → BegunSo latch_object primitive_of 0 v r w → v.alone ≡ true → ServesFirst [] v w
     begun-serves (resumed.Served k) b alone =
-        let r = (next-ran (served_at k) v w (inl b)).1 in
+        let r = (next-ran (served_at k) v w (inl (begun-only v w _ (λ under is. cc) b))).1 in
         by-one k r.along.called r.idle alone
     begun-serves (resumed.Left k) b alone =
-        serves-none v w (next-ran (left_at k) v w (inl b)).1.along.called alone
+        serves-none v w (next-ran (left_at k) v w (inl (begun-only v w _ (λ under is. cc) b))).1.along.called alone
     begun-serves (resumed.Refused k) b alone =
-        serves-none v w (next-ran (refused_at k) v w b).1.along.called alone
-    begun-serves (resumed.Under under) b alone = serves-none v w (next-handed under v w b).0.1.along.called alone
+        serves-none v w (next-ran (refused_at k) v w (begun-only v w _ (λ under is. cc) b)).1.along.called alone
+    begun-serves (resumed.Under under) b alone = serves-none v w (next-handed under v w (inl b)).along.called alone
 
     -- one that had been handed back went on
     pub finished-serves : (under : Under) (r : Resumed)
-        → Resumes latch_object primitive_of most_passed_over (under_ticket under) (under_payload under) v r w
+        → GoesOn latch_object primitive_of most_passed_over (under_ticket under) (under_payload under) v r w
         → v.alone ≡ true → ServesFirst [] v w
     finished-serves under (resumed.Served k) e alone =
-        let r = (on-ran under (served_at k) v w (inl e)).1 in
+        let r = (on-ran under (served_at k) v w (inl (ended-only most_passed_over _ _ v w _ (λ u is. cc) e))).1 in
         by-one k r.along.called r.idle alone
     finished-serves under (resumed.Left k) e alone =
-        serves-none v w (on-ran under (left_at k) v w (inl e)).1.along.called alone
+        let r = (on-ran under (left_at k) v w (inl (ended-only most_passed_over _ _ v w _ (λ u is. cc) e))).1 in
+        serves-none v w r.along.called alone
     finished-serves under (resumed.Refused k) e alone =
-        serves-none v w (on-ran under (refused_at k) v w e).1.along.called alone
+        let r = (on-ran under (refused_at k) v w (ended-only most_passed_over _ _ v w _ (λ u is. cc) e)).1 in
+        serves-none v w r.along.called alone
     finished-serves under (resumed.Under again) e alone =
-        serves-none v w (stopped-handed _ _ again v w e).along.called alone
+        serves-none v w (on-handed_back under again v w (inl e)).along.called alone
 
   -- all were served, where nobody waits then
   pub all-served : (own : List LatchEntry) (v w : View LatchEntry T) → ServesFirst own v w → waiting_in w ≡ []

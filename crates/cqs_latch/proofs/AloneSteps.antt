@@ -26,6 +26,7 @@ use Rattle.cqs_latch.specs.declared.answers.LatchWait.TheVariants as waited
 use Rattle.cqs_latch.specs.Alone.{plain_after, IsPlainCount, IsPlainWait, IsPlainPoll, IsPlainCancel}
 use Rattle.cqs_latch.specs.Answers.{HasWaited}
 use Rattle.cqs_latch.specs.Calls.{CallRuleEnding, CallRule}
+use Rattle.cqs_latch.specs.Causes.{NextWas}
 use Rattle.cqs_latch.specs.CountAnswers.{HasCounted}
 use Rattle.cqs_latch.specs.Entries.{polled_entries}
 use Rattle.cqs_latch.specs.Latch.{is_simple}
@@ -95,6 +96,29 @@ module _ {T : Type 0} where
   plain-polled k polled.Through v w rule alone = alone-first v w _ _ _ _ _ rule alone refl
   plain-polled k (polled.Pending wait) v w rule alone = alone-first v w _ _ _ _ _ rule alone refl
 
+  -- what a call without entries loaded of the suspend counter
+  next-alone : (v w : View LatchEntry T) (n : ℕ) (before : List LatchEntry) → CallRule v [] [] w → NextWas v n before w
+      → v.alone ≡ true → (plain_after v).waiters.next ≡ n
+  next-alone v w n before rule found alone =
+      let seen : w.seen ≡ v.seen =
+      rule.called.seen ∙ (ap (λ l. v.seen ++ l) (rule.called.sole alone) ∙ append-nil v.seen)
+      in
+      let here : before ≡ v.seen = between v.seen before found.since (subst (IsPrefix before) seen found.seen) in
+      (λ i. (object_of (sym rule.called.same.opening i) (sym here i)).waiters.next) ∙ found.next
+    where
+      none : (l m : List LatchEntry) → length l ≡ length (l ++ m) → m ≡ []
+      none l [] same = refl
+      none l (x ∷ m) same = absurd (omega (arith, same, length-append l (x ∷ m)))
+
+      between : (l m : List LatchEntry) → IsPrefix l m → IsPrefix m l → m ≡ l
+      between l m p q =
+          let longer = length-append l p.0 in
+          let longer' = length-append m q.0 in
+          let front : length m ≡ length (l ++ p.0) = ap length p.1 in
+          let back : length l ≡ length (m ++ q.0) = ap length q.1 in
+          let nothing : p.0 ≡ [] = none l p.0 (omega (arith, longer, longer', front, back)) in
+          p.1 ∙ (ap (λ z. l ++ z) nothing ∙ append-nil l)
+
   -- nothing happened between the beginning of the call and its first step
   pub plain-waited : (answer : Result LatchWait AcquireError) (v w : View LatchEntry T) → HasWaited v answer w
       → v.alone ≡ true → IsPlainWait v answer
@@ -110,27 +134,10 @@ module _ {T : Type 0} where
       let enters = alone-allowed v w _ _ _ (entry.AwaitDoor v.number ∷ []) [] (entry.Enter v.number k) rule alone refl
       in (shut, enters.1)
   plain-waited (Err error.Worn) v w (drew, rule, (above, worn, rests)) alone =
-      let next = worn.found.next in
-      let seen : w.seen ≡ v.seen =
-      rule.called.seen ∙ (ap (λ l. v.seen ++ l) (rule.called.sole alone) ∙ append-nil v.seen)
-      in
       let low = worn.worn in
-      let here : worn.before ≡ v.seen = between v.seen worn.before worn.found.since
-      (subst (IsPrefix worn.before) seen worn.found.seen) in
-      let is : (plain_after v).waiters.next ≡ worn.loaded =
-      (λ i. (object_of (sym rule.called.same.opening i) (sym here i)).waiters.next) ∙ next in
+      let is = next-alone v w worn.loaded worn.before rule worn.found alone in
       omega (arith, low, is)
-    where
-      none : (l m : List LatchEntry) → length l ≡ length (l ++ m) → m ≡ []
-      none l [] same = refl
-      none l (x ∷ m) same = absurd (omega (arith, same, length-append l (x ∷ m)))
-
-      between : (l m : List LatchEntry) → IsPrefix l m → IsPrefix m l → m ≡ l
-      between l m p q =
-          let longer = length-append l p.0 in
-          let longer' = length-append m q.0 in
-          let front : length m ≡ length (l ++ p.0) = ap length p.1 in
-          let back : length l ≡ length (m ++ q.0) = ap length q.1 in
-          let nothing : p.0 ≡ [] = none l p.0 (omega (arith, longer, longer', front, back)) in
-          p.1 ∙ (ap (λ z. l ++ z) nothing ∙ append-nil l)
-  plain-waited (Err error.Crowded) v w (drew, rule, why) alone = absurd why
+  plain-waited (Err error.Crowded) v w (drew, rule, (above, full, rests)) alone =
+      let below = full.below in
+      let is = next-alone v w full.loaded full.before rule full.found alone in
+      omega (arith, below, is)

@@ -1,5 +1,5 @@
 -- A cancel is its steps: the queue's cancel, and perhaps a resumption that goes on.
-use Rattle.std.proofs.Common.{◌≡◌, ◌⊎◌, ℕ, Bool, true, false, not, List, [], ◌∷◌, ◌++◌, Option, Some, None, sym, refl, ap, ◌∙◌, subst, inl, inr, arith}
+use Rattle.std.proofs.Common.{◌≡◌, ◌⊎◌, ℕ, Bool, true, false, not, List, [], ◌∷◌, Option, Some, None, sym, refl, ap, ◌∙◌, subst, inl, inr, arith}
 use Rattle.std.proofs.lemmas.List.{append-nil}
 use Rattle.cqs_core.specs.declared.cells.CoreState.TheVariants as state
 use Rattle.cqs_core.specs.declared.doings.Doing.TheVariants as doing
@@ -8,8 +8,8 @@ use Rattle.cqs_latch_object.specs.declared.entries.LatchEntry.{LatchEntry}
 use Rattle.cqs_latch_object.specs.declared.entries.LatchEntry.TheVariants as entry
 use Rattle.cqs_resume.specs.declared.resumed.Resumed.{Resumed}
 use Rattle.cqs_resume.specs.declared.resumed.Resumed.TheVariants as resumed
+use Rattle.cqs_resume.specs.Resumes as resumes
 use Rattle.cqs_resume.specs.Resumes.{Resumes, most_passed_over}
-use Rattle.cqs_resume.specs.Rounds.{numbers}
 use Rattle.cqs_rule.specs.declared.queue.tokens.Under.{Under}
 use Rattle.cqs_rule_laws.specs.declared.view.Facts.{Facts}
 use Rattle.cqs_rule_laws.specs.declared.view.View.{View}
@@ -40,8 +40,11 @@ use Rattle.cqs_latch.specs.LeftAnswers.{WasAsked, WentSo, HasLeft}
 use Rattle.cqs_latch.specs.Steps.{GoesOn, as_left}
 use Rattle.cqs_latch.specs.Waking.{Ending, served_at, left_at, refused_at, ending_entries, woken_entries, handed_back, EndsSo}
 use Rattle.cqs_latch.proofs.Along.{Along, along-onward, word-later}
-use Rattle.cqs_latch.proofs.WakeSteps.{Ran, ended-cell, ended-ran, stopped-handed, woken-none}
+use Rattle.cqs_latch.proofs.WakeSteps.{Ran, ended-cell, ended-only, ended-ran, goes-handed, handed-since, woken-none}
 use Rattle.cqs_latch.proofs.WordsFound.{reads-waiters}
+
+none-some : (under : Under) → ◌≡◌ {A = Option Under} None (Some under) → ⊥
+none-some under is = cc
 
 decided-so : (k : ℕ) (a b : Bool) → doing.Decided k (not a) ≡ doing.Decided k b → not a ≡ b
 decided-so k a b is = cc
@@ -156,28 +159,32 @@ module _ {T : Type 0} where
           ),
         )
 
-    pub smart-passed : (payload : ℕ) (u w : View LatchEntry T) → IsLegalOf w
-        → cancel.Cancels latch_object primitive_of asked_so k v (GoneOwing payload) u
-        → GoesOn payload u None w → HasLeft Smart k v gone.Gone w
-    smart-passed payload u w legal b (resumed.Served n, is, e) =
+    ended-so : (payload : ℕ) (u w : View LatchEntry T) (r : Resumed) → IsLegalOf w
+        → cancel.Cancels latch_object primitive_of asked_so k v (GoneOwing payload) u → None ≡ handed_back r
+        → Resumes latch_object primitive_of most_passed_over None payload u r w → HasLeft Smart k v gone.Gone w
+    ended-so payload u w (resumed.Served n) legal b is e =
         passed-on payload u w (served_at n) _ legal b
         (ended-ran serves state.Waiter most_passed_over None payload n u w e)
         (ended-cell serves state.Waiter most_passed_over None payload n u w e)
-    smart-passed payload u w legal b (resumed.Left n, is, inl e) =
+    ended-so payload u w (resumed.Left n) legal b is (inl e) =
         passed-on payload u w (left_at n) _ legal b (ended-ran leaves state.Empty most_passed_over None payload n u w e)
         (inl (ended-cell leaves state.Empty most_passed_over None payload n u w e))
-    smart-passed payload u w legal b (resumed.Left n, is, inr e) =
+    ended-so payload u w (resumed.Left n) legal b is (inr e) =
         passed-on payload u w (left_at n) _ legal b
         (ended-ran delegates state.Cancelling most_passed_over None payload n u w e)
         (inr (ended-cell delegates state.Cancelling most_passed_over None payload n u w e))
-    smart-passed payload u w legal b (resumed.Refused n, is, e) =
+    ended-so payload u w (resumed.Refused n) legal b is e =
         passed-on payload u w (refused_at n) _ legal b
         (ended-ran ends_refused state.Refused most_passed_over None payload n u w e)
         (ended-cell ends_refused state.Refused most_passed_over None payload n u w e)
-    smart-passed payload u w legal b (resumed.Under under, is, e) = absurd (none-some under is)
-      where
-        none-some : (under : Under) → ◌≡◌ {A = Option Under} None (Some under) → ⊥
-        none-some under is = cc
+    ended-so payload u w (resumed.Under under) legal b is e = absurd (none-some under is)
+
+    pub smart-passed : (payload : ℕ) (u w : View LatchEntry T) → IsLegalOf w
+        → cancel.Cancels latch_object primitive_of asked_so k v (GoneOwing payload) u
+        → GoesOn payload u None w → HasLeft Smart k v gone.Gone w
+    smart-passed payload u w legal b (r, is, goes) =
+        ended-so payload u w r legal b is (ended-only most_passed_over None payload u w r
+        (λ under same. none-some under (is ∙ ap handed_back same)) goes)
 
     -- it was handed back
     pub smart-owing : (payload : ℕ) (u w : View LatchEntry T) (under : Under) → IsLegalOf w
@@ -192,13 +199,14 @@ module _ {T : Type 0} where
         same-under : (again : Under) → ◌≡◌ {A = Option Under} (Some under) (Some again) → again ≡ under
         same-under again is = cc
 
-        handed : Resumes latch_object primitive_of most_passed_over None payload u (resumed.Under under) w
+        handed : resumes.GoesOn latch_object primitive_of most_passed_over None payload u (resumed.Under under) w
             → HasLeft Smart k v (gone.GoneOwing (record { under = under; further = 0 })) w
-        handed e =
+        handed goes =
             let out = out-owing latch_object primitive_of 1 event.leaves leave_entries asks k b.word payload v u
             b.ends.0 in
             let o = out.0 in
-            let h = stopped-handed None payload under u w e in
+            let h = goes-handed None payload under u w goes in
+            let grew = ap (λ (f : Facts). f.heads) b.ends.0.facts_are in
             let less = h.further in
             let owes : u.facts.has.further ≡ v.facts.has.further = ap (λ h. h.further) o.has_is in
             let none = ready.further in (
@@ -212,11 +220,7 @@ module _ {T : Type 0} where
                 asked-later k v u w _ (was-asked true k b.word v u (asked-so latch_object primitive_of
                     1 event.leaves leave_entries asks _ settles_owing true k b.word payload v u b.ends.0)) h.along,
                 once-later primitive_of state.Delegated k v u w out.1 (along-onward u w _ _ h.along),
-                record {
-                  over = numbers e.over;
-                  passed = h.passed ∙ ap (λ l. l ++ numbers e.over) o.passed;
-                  many_are = h.many;
-                },
+                handed-since under [] v u w o.called.same (o.passed ∙ sym (append-nil v.facts.passed)) (_, grew) h.why,
                 record {
                   under = h.has;
                   further = omega (arith, less, owes, none);
@@ -228,14 +232,14 @@ module _ {T : Type 0} where
             )
 
         by : (r : Resumed) → Some under ≡ handed_back r
-            → Resumes latch_object primitive_of most_passed_over None payload u r w
+            → resumes.GoesOn latch_object primitive_of most_passed_over None payload u r w
             → HasLeft Smart k v (gone.GoneOwing (record { under = under; further = 0 })) w
         by (resumed.Served n) is e = absurd (some-none is)
         by (resumed.Left n) is e = absurd (some-none is)
         by (resumed.Refused n) is e = absurd (some-none is)
         by (resumed.Under again) is e =
-            handed (subst (λ z. Resumes latch_object primitive_of most_passed_over None payload u (resumed.Under z) w)
-            (same-under again is) e)
+            handed (subst (λ z. resumes.GoesOn latch_object primitive_of most_passed_over None payload u
+            (resumed.Under z) w) (same-under again is) e)
 
     -- the cell was found resumed
     pub late : (mode : CancelMode) (payload : ℕ) (w : View LatchEntry T) → IsLegalOf w

@@ -108,7 +108,8 @@ module _ {T : Type 0} where
       (subst (Has (place_of old).index) (sym why.4.waits_are)
       (has_left (place_of old).index v.facts.waits ((place_of wait).index ∷ []) has.open_yet)) has
   keeps-waited (Err error.Worn) v w (drew, rule, why) = keeps-all v w (goes-same v w rule.called.same) why.2.waits_are
-  keeps-waited (Err error.Crowded) v w (drew, rule, why) = absurd why
+  keeps-waited (Err error.Crowded) v w (drew, rule, why) =
+      keeps-all v w (goes-same v w rule.called.same) why.2.waits_are
 
   pub keeps-polled : (wait : Wait) (answer : LatchPolled) (v w : View LatchEntry T)
       → CallRule v (polled_entries v.number (place_of wait).index answer) [] w → IsPolled wait v answer w

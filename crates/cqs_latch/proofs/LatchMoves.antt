@@ -21,7 +21,7 @@ use Rattle.cqs_rule_laws.specs.Lists.{NamesOnly}
 use Rattle.cqs_rule_laws.specs.Manner.{Asks}
 use Rattle.cqs_rule_laws.specs.Ruled.{number_at}
 use Rattle.cqs_rule.proofs.Ticketless.{no-ticket, if-ticketless}
-use Rattle.cqs_latch.specs.Latch.{is_simple, further_of, latch_shown, ShowsLatch, latch_object, latch_primitive, latch_manner}
+use Rattle.cqs_latch.specs.Latch.{is_simple, latch_limit, further_of, latch_shown, ShowsLatch, latch_object, latch_primitive, latch_manner}
 use Rattle.cqs_latch.specs.LatchClient.{further-set, further-kept, none-held}
 use Rattle.cqs_latch.specs.LatchEvents.{loads_to_count, counts_down, loads_to_wait, comes, turns_back, opens, leaves}
 use Rattle.cqs_latch.proofs.WordSteps.{count-down, more-waiters, more-done, less-waiters, less-done, done-waiters, done-done}
@@ -95,14 +95,14 @@ module _ (mode : CancelMode) (size p : ℕ) (facts : Facts) (c : Hidden) (words 
       (ap waiters_in (first-else x)) (ap is_done (first-else x)) same-owed
 
   -- the waiters are few, wherever a step is made
-  few-waiters : IsShort c.queue → waiters_in (slice_index words 1) < 4194336
+  few-waiters : IsShort latch_limit c.queue → waiters_in (slice_index words 1) < 4294967296
   few-waiters short =
       let few = waiters-are-few s shows.core in
       let drawn = short.drawn in
       let passes = shows.few_passes in
       omega arith
 
-  come-shown : IsOpenWord s word.comes p → IsShort c.queue → slice_index words 1 < 2 ^ 64
+  come-shown : IsOpenWord s word.comes p → IsShort latch_limit c.queue → slice_index words 1 < 2 ^ 64
       → ShowsLatch mode size (stands_at c p (word_doing s word.comes) facts.has)
       (slice_set words 1 (word_plus (pos 1) (slice_index words 1))) (log ++ word_entries s word.comes p)
   come-shown may short small =
@@ -125,7 +125,7 @@ module _ (mode : CancelMode) (size p : ℕ) (facts : Facts) (c : Hidden) (words 
       (ap count_in (second-else x)) (ap waiters_in (second-set x) ∙ less-waiters n small some)
       (ap is_done (second-set x) ∙ less-done n small some) same-owed
 
-  open-shown : (h : Has) → IsOpenWord s word.opens p → IsShort c.queue → slice_index words 1 < 2 ^ 64
+  open-shown : (h : Has) → IsOpenWord s word.opens p → IsShort latch_limit c.queue → slice_index words 1 < 2 ^ 64
       → h.held ≡ facts.has.held → h.further ≡ waiters_in (slice_index words 1) % 2 ^ 32
       → ShowsLatch mode size (stands_at c p doing.Idle h) (slice_set words 1 (bit_or (slice_index words 1) (2 ^ 63)))
       (log ++ entry.Open p ∷ [])

@@ -2,6 +2,7 @@ pub mod WordSteps
 pub mod LatchMoves
 pub mod WordsFound
 pub mod Along
+pub mod Claims
 pub mod WaitSteps
 pub mod WakeSteps
 pub mod Grown

@@ -1,6 +1,6 @@
 -- A wait is its steps: a load of the count, a load of the suspend counter, one added to the waiters, and perhaps a
 -- suspend.
-use Rattle.std.proofs.Common.{◌≡◌, inl, inr, ℕ, ◌≤◌, Bool, true, false, List, [], ◌∷◌, ◌++◌, Some, None, Result, Ok, Err, refl, ap, ◌∙◌, subst, arith, if◌then◌else◌, pos, ◌≤ℤ◌}
+use Rattle.std.proofs.Common.{◌≡◌, inl, inr, ℕ, ◌<◌, ◌≤◌, Bool, true, false, List, [], ◌∷◌, ◌++◌, Some, None, Result, Ok, Err, refl, ap, ◌∙◌, subst, arith, if◌then◌else◌, lt-ltb, pos, ◌≤ℤ◌}
 use Rattle.std.proofs.lemmas.Int.{ints}
 use Rattle.cqs_core.specs.declared.doings.Doing.TheVariants as doing
 use Rattle.cqs_latch_object.specs.declared.entries.LatchEntry.{LatchEntry}
@@ -8,7 +8,7 @@ use Rattle.cqs_latch_object.specs.declared.entries.LatchEntry.TheVariants as ent
 use Rattle.cqs_latch_object.specs.LatchWords.{is_used, come_entry, come_doing}
 use Rattle.cqs_rule_laws.specs.declared.config.AcquireError.{AcquireError}
 use Rattle.cqs_rule_laws.specs.declared.config.AcquireError.TheVariants as error
-use Rattle.cqs_rule_laws.specs.declared.config.AcquireError.TheVariants.{Worn}
+use Rattle.cqs_rule_laws.specs.declared.config.AcquireError.TheVariants.{Crowded, Worn}
 use Rattle.cqs_rule_laws.specs.declared.view.Facts.{Facts}
 use Rattle.cqs_rule_laws.specs.declared.view.Sighting.TheVariants.{Word}
 use Rattle.cqs_rule_laws.specs.declared.view.View.{View}
@@ -17,18 +17,20 @@ use Rattle.cqs_rule_laws.specs.Events.{facts_moved}
 use Rattle.cqs_rule_laws.specs.Layout.{suspends_place, client_place}
 use Rattle.cqs_rule_laws.specs.Lists.{Has}
 use Rattle.cqs_rule_laws.specs.Saw.{Saw}
+use Rattle.cqs_rule.specs.Claims.{Claimed, Crowds}
 use Rattle.cqs_rule.specs.Waits.{place_of}
 use Rattle.cqs_words.specs.State.{count_in, is_above_zero}
 use Rattle.cqs_words.specs.Waiters.{is_done}
 use Rattle.cqs_latch.specs.declared.answers.LatchWait.{LatchWait}
 use Rattle.cqs_latch.specs.declared.answers.LatchWait.TheVariants.{Passed, Later}
-use Rattle.cqs_latch.specs.Answers.{WasAbove, WasShut, HasWaited}
+use Rattle.cqs_latch.specs.Answers.{HasWaited, IsCrowded, WasAbove, WasShut}
 use Rattle.cqs_rule_laws.specs.CallRule.{IsReady}
 use Rattle.cqs_latch.specs.Calls.{IsLegalOf}
 use Rattle.cqs_latch.specs.Latch.{latch_object}
 use Rattle.cqs_latch.specs.LatchEvents.{loads_to_wait, comes, turns_back}
 use Rattle.cqs_latch.specs.LatchTold.{at_word, OnWord, ReadsCount, ReadsWaiters, NextIs}
 use Rattle.cqs_latch.specs.Steps.{WaitsInLine}
+use Rattle.cqs_latch.proofs.Claims.{along-back, along-left, crowded-so, trying-first, trying-next}
 use Rattle.cqs_latch.proofs.Along.{Along, along-first, along-and, word-first, word-then, word-later, next-then, next-later}
 use Rattle.cqs_rule_laws.proofs.Rules.{call-rule, call-rule_own}
 use Rattle.cqs_suspend.proofs.Sat.{sat-taken, sat-installed}
@@ -77,7 +79,7 @@ module _ {T : Type 0} where
         further = ap (λ (f : Facts). f.has.further) o.saw.facts_are;
       }
 
-  above-later : (v u w : View LatchEntry T) (es last : List LatchEntry) → WasAbove v u → Along u es last w
+  pub above-later : (v u w : View LatchEntry T) (es last : List LatchEntry) → WasAbove v u → Along u es last w
       → WasAbove v w
   above-later v u w es last was a = record {
     word = was.word;
@@ -96,6 +98,26 @@ module _ {T : Type 0} where
         tries = ap (λ (f : Facts). f.doing) next.saw.facts_are ∙ l.tries;
         waits = ap (λ (f : Facts). f.waits) next.saw.facts_are ∙ l.waits;
         further = ap (λ (f : Facts). f.has.further) next.saw.facts_are ∙ l.further;
+      }
+
+  -- it may draw then
+  pub may-draw : (x y : View LatchEntry T) (m : ℕ) → NextIs x m y → m < x.limit → y.facts.may_draw ≡ true
+  may-draw x y m next below =
+      ap (λ (f : Facts). f.may_draw) next.saw.facts_are
+      ∙ ap (λ b. if b then true else x.facts.may_draw) (lt-ltb m x.limit below)
+
+  -- and it claimed spare slots
+  pub claimed : (v y u : View LatchEntry T) (n : ℕ) → Loaded n v y → Claimed 2 y u → Loaded n v u
+  claimed v y u n l c =
+      let left = c.left.1 in
+      let at = ap (λ (z : View LatchEntry T). z.facts) left.is in
+      let a : Along y [] [] u = along-left y u c.left.0 u.facts.spare_slots y.facts.duties left in
+      record {
+        along = along-and v y u [] [] [] [] l.along a;
+        above = above-later v y u [] [] l.above a;
+        tries = ap (λ (f : Facts). f.doing) at ∙ l.tries;
+        waits = ap (λ (f : Facts). f.waits) at ∙ l.waits;
+        further = ap (λ (f : Facts). f.has.further) at ∙ l.further;
       }
 
   module _ (v : View LatchEntry T) (ready : IsReady v.facts) (own : Has v.number v.own) where
@@ -154,6 +176,43 @@ module _ {T : Type 0} where
                 further = ap (λ (f : Facts). f.has.further) o.saw.facts_are ∙ l'.further ∙ ready.further;
               };
               waits_are = ap (λ (f : Facts). f.waits) o.saw.facts_are ∙ l'.waits;
+            },
+          ),
+        )
+
+    -- fewer were drawn, the pass was crowded, and it turned back
+    pub crowded : (x y u z : View LatchEntry T) (n m b : ℕ) → is_above_zero n ≡ true
+        → OnWord 0 loads_to_wait ReadsCount v n x → NextIs x m y → m < v.limit → Crowds 2 y u
+        → OnWord 0 turns_back ReadsCount u b z → IsLegalOf z → HasWaited v (Err Crowded) z
+    crowded x y u z n m b above first next below c o legal =
+        let l : Loaded n v x = loaded v x n above first in
+        let l' : Loaded n v y = counted v x y n m l next in
+        let limit = l.along.called.same.limit in
+        let at = trying-next v x y (count_in n) v.facts.may_draw (Word (client_place 0) n ∷ []) m
+        (trying-first v x n ready.idle (above-used n above) first.saw.facts_are) next (omega (arith, below, limit)) in
+        let loads = Word (client_place 0) n ∷ Word suspends_place m ∷ [] in
+        let was = crowded-so 2 (count_in n) true loads v y u z b l'.along.called.same at c o in
+        let back = along-back 2 (count_in n) true loads v y u z b l'.along.called.same at c o in
+        let a : Along v [] [] z = along-and v y z [] [] [] [] l'.along back in (
+          None,
+          call-rule_own latch_object v z [] [] a.called tt own legal,
+          (
+            above-later v y z [] [] l'.above back,
+            record {
+              loaded = m;
+              before = y.seen;
+              below = below;
+              found = next-later m v y z y.seen [] [] (next-then m v x y [] [] l.along next) back;
+              count = n;
+              back = b;
+              crowded = was;
+            },
+            record {
+              ready = record {
+                idle = ap (λ (f : Facts). f.doing) was.facts_are;
+                further = ap (λ (f : Facts). f.has.further) was.facts_are ∙ ready.further;
+              };
+              waits_are = ap (λ (f : Facts). f.waits) was.facts_are;
             },
           ),
         )
@@ -273,4 +332,8 @@ module _ {T : Type 0} where
   waited-ready v w (Ok Passed) (Some k, rule, why) = why.3.ready
   waited-ready v w (Ok (Later wait)) (drew, rule, why) = why.4.ready
   waited-ready v w (Err error.Worn) (drew, rule, why) = why.2.ready
-  waited-ready v w (Err error.Crowded) (drew, rule, why) = absurd why
+  waited-ready v w (Err error.Crowded) (drew, rule, why) = why.2.ready
+
+  -- why it was crowded
+  pub waited-crowded : (v w : View LatchEntry T) → HasWaited v (Err error.Crowded) w → IsCrowded v w
+  waited-crowded v w (drew, rule, why) = why.1

@@ -1,5 +1,6 @@
 -- Resumptions of a latch, one after the other: each ended at a number, or was handed back.
-use Rattle.std.proofs.Common.{◌≡◌, inl, inr, ℕ, suc, ◌+◌, ◌-◌, ◌≤◌, List, [], ◌∷◌, ◌++◌, length, Option, Some, None, sym, refl, ap, ◌∙◌, subst, append_assoc, arith}
+use Rattle.std.proofs.Common.{◌≡◌, inl, inr, ⊎_elim, ℕ, suc, ◌+◌, ◌-◌, ◌≤◌, Bool, true, false, List, [], ◌∷◌, ◌++◌, length, Option, Some, None, sym, refl, ap, ◌∙◌, subst, append_assoc, length-append, arith}
+use Rattle.std.specs.Prelude.{IfSome}
 use Rattle.std.proofs.lemmas.List.{append-nil}
 use Rattle.cqs_core.specs.declared.cells.CoreState.{CoreState}
 use Rattle.cqs_core.specs.declared.cells.CoreState.TheVariants as state
@@ -12,24 +13,33 @@ use Rattle.cqs_resume.specs.declared.at_once.EndedAtOnce.{EndedAtOnce}
 use Rattle.cqs_resume.specs.declared.at_once.EndedAtOnce.TheVariants as once
 use Rattle.cqs_resume.specs.declared.resumed.Resumed.{Resumed}
 use Rattle.cqs_resume.specs.declared.resumed.Resumed.TheVariants as resumed
-use Rattle.cqs_resume.specs.AtOnce.{MeetsAtOnce, BegunAtOnce, FinishedAtOnce}
-use Rattle.cqs_resume.specs.Begins.{Begun}
-use Rattle.cqs_resume.specs.Meets.{Met}
-use Rattle.cqs_resume.specs.Resumes.{Ended, Stopped, Resumes, most_passed_over, most_after_first}
-use Rattle.cqs_resume.specs.Rounds.{numbers}
-use Rattle.cqs_resume.proofs.Ends.{IsQuiet, ended-at, handed-back, drawn-few, opened-few}
+use Rattle.cqs_resume.specs.AtOnce.{DrewAndMet, FinishedAtOnce, FinishedOrHeld, HeldAtOnce, MeetsAtOnce, MeetsOrHolds}
+use Rattle.cqs_resume.specs.Begins.{Begun, BegunSo}
+use Rattle.cqs_resume.specs.Counting.{settles_at}
+use Rattle.cqs_resume.specs.Meets.{HeldBack, Met}
+use Rattle.cqs_resume.specs.Resumes.{Ended, GoesOn, Held, Stopped, Resumes, most_passed_over, most_after_first}
+use Rattle.cqs_resume.specs.Rounds.{all_heads, numbers}
+use Rattle.cqs_resume.proofs.Ends.{IsQuiet, ended-at, handed-back, held-on, drawn-few, opened-few}
 use Rattle.cqs_rule.specs.declared.queue.tokens.Under.{Under}
 use Rattle.cqs_rule_laws.specs.declared.view.Facts.{Facts}
 use Rattle.cqs_rule_laws.specs.declared.view.Sighting.TheVariants.{Cell, Word}
 use Rattle.cqs_rule_laws.specs.declared.view.View.{View}
+use Rattle.cqs_rule_laws.specs.Ample.{AreEnough}
 use Rattle.cqs_rule_laws.specs.Counts.{Drew}
 use Rattle.cqs_rule_laws.specs.Layout.{resumes_place}
+use Rattle.cqs_rule_laws.specs.Lists.{IsPrefix}
+use Rattle.cqs_rule_laws.specs.Views.{IsSame}
+use Rattle.cqs_rule.proofs.Claiming.{wants-since}
+use Rattle.cqs_rule.specs.Claims.{WantsSlot}
+use Rattle.cqs_rule.specs.Counting.{heads_after}
 use Rattle.cqs_rule.specs.Owed.{HasUnder, under_payload, under_ticket}
 use Rattle.cqs_rule_laws.proofs.Calls.{called-none}
+use Rattle.cqs_rule_laws.proofs.Lists.{prefix-then}
+use Rattle.cqs_rule_laws.proofs.Prefixes.{prefix-is, prefix-same}
 use Rattle.cqs_rule_laws.proofs.Rules.{NoneName, called-weak}
 use Rattle.cqs_latch.specs.Causes.{primitive_of, CellWas}
 use Rattle.cqs_latch.specs.Latch.{latch_object}
-use Rattle.cqs_latch.specs.Waking.{Ending, served_at, left_at, refused_at, missed_at, ending_entries, woken_entries, handed_back, handed_back_at_once, NextEnded, NextHanded, Next, OnEnded, On, Woke}
+use Rattle.cqs_latch.specs.Waking.{Ending, served_at, left_at, refused_at, missed_at, ending_entries, woken_entries, handed_back, handed_back_at_once, IsHandedFor, NextEnded, NextHanded, Next, OnEnded, OnHanded, On, Woke}
 use Rattle.cqs_latch.proofs.Along.{Along, along-first, along-and}
 
 -- a resumption that goes on shows no entry but that of its last step
@@ -38,6 +48,12 @@ quiet = record { drawing = λ p k payload. refl; passing = λ p k payload. refl 
 
 minus-none : (n : ℕ) → n ≡ n - 0
 minus-none n = omega arith
+
+-- heads that were found before a search, and before a cell was counted
+heads-more : (settles : Bool) (heads more counted : List (ℕ × ℕ))
+    → IsPrefix heads (heads_after settles counted (heads ++ more))
+heads-more false heads more counted = (more, refl)
+heads-more true heads more counted = (more ++ counted, append_assoc heads more counted)
 
 -- the entries by which resumptions reach their numbers name nobody
 ending-none : (e : Ending) (es : List LatchEntry) → NoneName entry_names es
@@ -78,7 +94,7 @@ module _ {T : Type 0} where
       record { called = called-weak latch_object v u es last a.called; found = a.found; found_is = a.found_is }
 
   -- From v to u the pass made resumptions with these entries. It is idle, owes so many fewer, has all else as it had
-  -- it, and passed over these numbers.
+  -- it, and passed over these numbers. The heads that it had found come first.
   pub record Ran (es : List LatchEntry) (less : ℕ) (over : List ℕ) (v u : View LatchEntry T) : Type 0 where
     pub along : Along v es [] u
     pub idle : u.facts.doing ≡ doing.Idle
@@ -86,6 +102,7 @@ module _ {T : Type 0} where
     pub payload : u.facts.has.payload ≡ v.facts.has.payload
     pub waits : u.facts.waits ≡ v.facts.waits
     pub passed : u.facts.passed ≡ v.facts.passed ++ over
+    pub heads : IsPrefix v.facts.heads u.facts.heads
 
   pub ran-none : (v : View LatchEntry T) → v.facts.doing ≡ doing.Idle → Ran [] 0 [] v v
   ran-none v idle = record {
@@ -95,6 +112,7 @@ module _ {T : Type 0} where
     payload = refl;
     waits = refl;
     passed = sym (append-nil v.facts.passed);
+    heads = prefix-same v.facts.heads;
   }
 
   pub ran-then : (es fs : List LatchEntry) (less more : ℕ) (over then : List ℕ) (v u w : View LatchEntry T)
@@ -106,6 +124,7 @@ module _ {T : Type 0} where
     payload = b.payload ∙ a.payload;
     waits = b.waits ∙ a.waits;
     passed = b.passed ∙ (ap (λ l. l ++ then) a.passed ∙ append_assoc v.facts.passed over then);
+    heads = prefix-then v.facts.heads u.facts.heads w.facts.heads a.heads b.heads;
   }
 
   -- a resumption ended at a cell
@@ -122,6 +141,8 @@ module _ {T : Type 0} where
         payload = ap (λ h. h.payload) a.has;
         waits = a.waits;
         passed = a.passed;
+        heads = subst (IsPrefix u.facts.heads) (sym (ap (λ (f : Facts). f.heads) e.facts_are))
+            (heads-more (settles_at s) u.facts.heads (all_heads (e.over ++ e.last ∷ [])) e.counted);
       }
 
   -- which it found so
@@ -142,6 +163,8 @@ module _ {T : Type 0} where
     payload = ap (λ (f : Facts). f.has.payload) m.saw.facts_are;
     waits = ap (λ (f : Facts). f.waits) m.saw.facts_are;
     passed = ap (λ (f : Facts). f.passed) m.saw.facts_are;
+    heads = subst (IsPrefix u.facts.heads) (sym (ap (λ (f : Facts). f.heads) m.saw.facts_are))
+        (heads-more (settles_at s) u.facts.heads m.heads m.counted);
   }
 
   -- the next number was drawn for it
@@ -155,6 +178,7 @@ module _ {T : Type 0} where
     payload = r.payload ∙ ap (λ (f : Facts). f.has.payload) d.facts_are;
     waits = r.waits ∙ ap (λ (f : Facts). f.waits) d.facts_are;
     passed = r.passed ∙ ap (λ (f : Facts). f.passed ++ over) d.facts_are;
+    heads = subst (λ h. IsPrefix h w.facts.heads) (ap (λ (f : Facts). f.heads) d.facts_are) r.heads;
   }
 
   reached-ran : (k : ℕ) (es : List LatchEntry) (over : List ℕ) (v u w : View LatchEntry T)
@@ -168,6 +192,7 @@ module _ {T : Type 0} where
     payload = r.payload ∙ ap (λ (f : Facts). f.has.payload) d.facts_are;
     waits = r.waits ∙ ap (λ (f : Facts). f.waits) d.facts_are;
     passed = r.passed ∙ ap (λ (f : Facts). f.passed ++ over) d.facts_are;
+    heads = subst (λ h. IsPrefix h w.facts.heads) (ap (λ (f : Facts). f.heads) d.facts_are) r.heads;
   }
 
   -- the next one ended
@@ -233,49 +258,163 @@ module _ {T : Type 0} where
   woke-on [] e v u w woke next = (w, subst (λ z. NextEnded e z w) woke next, refl)
   woke-on (d ∷ ends) e v u w (x, first, woke) next = (x, first, woke-on ends e x u w woke next)
 
-  -- One was handed back: the pass owes it, and has passed over as many numbers as one call may.
-  pub record Handed (under : Under) (less : ℕ) (over : List ℕ) (v w : View LatchEntry T) : Type 0 where
+  -- what the pass had found and passed over by then comes before what made the call hand it back
+  pub handed-since : (under : Under) (over : List ℕ) (v u w : View LatchEntry T) → IsSame v u
+      → u.facts.passed ≡ v.facts.passed ++ over → IsPrefix v.facts.heads u.facts.heads → IsHandedFor under u w
+      → IsHandedFor under v w
+  handed-since under over v u w same passed on (inl (none, p)) = inl (
+    none,
+    record {
+      over = over ++ p.over;
+      passed = p.passed ∙ (ap (λ l. l ++ p.over) passed ∙ append_assoc v.facts.passed over p.over);
+      many_are = let longer = length-append over p.over in let enough = p.many_are in omega (arith, longer, enough);
+    },
+  )
+  handed-since under over v u w same passed on (inr wants) = inr (wants-since under v u w same on wants)
+
+  -- One of this payload was handed back: the pass owes it, and so many fewer after it.
+  pub record Handed (under : Under) (payload less : ℕ) (v w : View LatchEntry T) : Type 0 where
     pub along : Along v [] [] w
     pub has : HasUnder w.facts under
     pub further : w.facts.has.further ≡ v.facts.has.further - less
     pub waits : w.facts.waits ≡ v.facts.waits
-    pub passed : w.facts.passed ≡ v.facts.passed ++ over
-    pub many : most_passed_over ≤ length over
+    pub why : IsHandedFor under v w
+    pub payload_is : under_payload under ≡ payload
 
-  pub stopped-handed : (ticket : Option ℕ) (payload : ℕ) (under : Under) (v w : View LatchEntry T)
-      → (e : Stopped latch_object primitive_of most_passed_over ticket payload under v w)
-      → Handed under 0 (numbers e.over) v w
-  stopped-handed ticket payload under v w e =
-      let h = handed-back latch_object primitive_of quiet most_passed_over ticket payload under v w e in
+  -- after it was drawn
+  handed-drawn : (under : Under) (payload less : ℕ) (v u w : View LatchEntry T)
+      → Along v [] [] u → u.facts.has.further ≡ v.facts.has.further - less → u.facts.waits ≡ v.facts.waits
+      → u.facts.passed ≡ v.facts.passed → u.facts.heads ≡ v.facts.heads → Handed under payload 0 u w
+      → Handed under payload less v w
+  handed-drawn under payload less v u w a further waits passed heads h = record {
+    along = along-and v u w [] [] [] [] a h.along;
+    has = h.has;
+    further = h.further ∙ (sym (minus-none u.facts.has.further) ∙ further);
+    waits = h.waits ∙ waits;
+    why = handed-since under [] v u w a.called.same (passed ∙ sym (append-nil v.facts.passed))
+        (prefix-is v.facts.heads u.facts.heads heads) h.why;
+    payload_is = h.payload_is;
+  }
+
+  begun-handed : (under : Under) (payload k : ℕ) (v u w : View LatchEntry T) → Drew latch_object begins v k u
+      → Handed under payload 0 u w → Handed under payload 1 v w
+  begun-handed under payload k v u w d h =
+      handed-drawn under payload 1 v u w (along-first v u _ [] (Word resumes_place k ∷ []) d refl)
+      (ap (λ (f : Facts). f.has.further) d.facts_are) (ap (λ (f : Facts). f.waits) d.facts_are)
+      (ap (λ (f : Facts). f.passed) d.facts_are) (ap (λ (f : Facts). f.heads) d.facts_are) h
+
+  reached-handed : (under : Under) (payload k : ℕ) (v u w : View LatchEntry T) → Drew latch_object reaches v k u
+      → Handed under payload 0 u w → Handed under payload 0 v w
+  reached-handed under payload k v u w d h =
+      handed-drawn under payload 0 v u w (along-first v u _ [] (Word resumes_place k ∷ []) d refl)
+      (ap (λ (f : Facts). f.has.further) d.facts_are ∙ minus-none v.facts.has.further)
+      (ap (λ (f : Facts). f.waits) d.facts_are) (ap (λ (f : Facts). f.passed) d.facts_are)
+      (ap (λ (f : Facts). f.heads) d.facts_are) h
+
+  -- as many numbers were passed over as one call may
+  stopped-handed : (most : ℕ) (ticket : Option ℕ) (payload : ℕ) (under : Under) (v w : View LatchEntry T)
+      → (e : Stopped latch_object primitive_of most ticket payload under v w)
+      → most_passed_over ≤ length (numbers e.over) → Handed under payload 0 v w
+  stopped-handed most ticket payload under v w e enough =
+      let h = handed-back latch_object primitive_of quiet most ticket payload under v w e in
       record {
         along = record { called = h.called; found = h.onward.found.0; found_is = h.onward.found.1 };
         has = e.has;
         further = ap (λ h. h.further) h.has ∙ minus-none v.facts.has.further;
         waits = h.waits;
-        passed = h.passed;
-        many = let few = drawn-few e.over in let all = e.all in omega arith;
+        why = inl (e.ticket_is, record { over = numbers e.over; passed = h.passed; many_are = enough });
+        payload_is = e.payload_is;
       }
 
-  pub next-handed : (under : Under) (v w : View LatchEntry T) → NextHanded under v w
-      → ((over : List ℕ) × Handed under 1 over v w) × (under_payload under ≡ 0)
-  next-handed under v w b =
-      let e = b.resumes in
-      let h = handed-back latch_object primitive_of quiet most_after_first (Some b.number) 0 under b.from w e in (
-        (
-          numbers e.over,
-          record {
-            along = along-and v b.from w [] [] [] []
-                (along-first v b.from _ [] (Word resumes_place b.number ∷ []) b.drew refl)
-                (record { called = h.called; found = h.onward.found.0; found_is = h.onward.found.1 });
-            has = e.has;
-            further = ap (λ h. h.further) h.has ∙ ap (λ (f : Facts). f.has.further) b.drew.facts_are;
-            waits = h.waits ∙ ap (λ (f : Facts). f.waits) b.drew.facts_are;
-            passed = h.passed ∙ ap (λ (f : Facts). f.passed ++ numbers e.over) b.drew.facts_are;
-            many = let few = opened-few b.number e.over e.opens in let all = e.all in omega arith;
-          },
-        ),
-        e.payload_is,
-      )
+  -- there was no slot, in smart mode
+  held-handed : (most payload : ℕ) (under : Under) (v w : View LatchEntry T)
+      → Held latch_object primitive_of most payload v (resumed.Under under) w → Handed under payload 0 v w
+  held-handed most payload under v w h =
+      let same : h.under ≡ under = same-under h.under h.is in
+      let on = held-on latch_object primitive_of quiet most payload (resumed.Under under) v w h in
+      record {
+        along = record { called = on.called; found = on.onward.found.0; found_is = on.onward.found.1 };
+        has = subst (HasUnder w.facts) same h.has;
+        further = ap (λ h. h.further) on.has ∙ minus-none v.facts.has.further;
+        waits = on.waits;
+        why = inr (subst (λ z. WantsSlot z v w) same on.wants);
+        payload_is = ap under_payload (sym same) ∙ h.payload_is;
+      }
+    where
+      same-under : (again : Under) → resumed.Under under ≡ resumed.Under again → again ≡ under
+      same-under again is = cc
+
+  -- and in simple mode
+  once-wants : (payload k : ℕ) (under : Under) (v w : View LatchEntry T)
+      → HeldBack latch_object primitive_of payload k v under w → WantsSlot under v w
+  once-wants payload k under v w b = record {
+    number = k;
+    ticket = b.ticket_is;
+    far = b.crowded.far;
+    spareless = b.crowded.none_left;
+    before = [];
+    heads = b.crowded.heads;
+    heads_are = b.crowded.found;
+    taken = b.crowded.taken;
+    scarce = b.crowded.scarce;
+  }
+
+  once-held : (payload k : ℕ) (under : Under) (v w : View LatchEntry T)
+      → MeetsOrHolds latch_object primitive_of payload k v (once.Under under) w
+      → HeldBack latch_object primitive_of payload k v under w
+  once-held payload k under v w (inl m) = absurd m
+  once-held payload k under v w (inr h) =
+      subst (λ z. HeldBack latch_object primitive_of payload k v z w) (same-under h.under h.is) h.held
+    where
+      same-under : (again : Under) → once.Under under ≡ once.Under again → again ≡ under
+      same-under again is = cc
+
+  once-handed : (payload k : ℕ) (under : Under) (v w : View LatchEntry T)
+      → MeetsOrHolds latch_object primitive_of payload k v (once.Under under) w → Handed under payload 0 v w
+  once-handed payload k under v w m =
+      let b = once-held payload k under v w m in
+      record {
+        along = along-first v w _ [] [] b.searched.saw refl;
+        has = b.has;
+        further = ap (λ (f : Facts). f.has.further) b.searched.saw.facts_are ∙ minus-none v.facts.has.further;
+        waits = ap (λ (f : Facts). f.waits) b.searched.saw.facts_are;
+        why = inr (once-wants payload k under v w b);
+        payload_is = b.payload_is;
+      }
+
+  -- the next one was handed back
+  begun-goes : (k : ℕ) (under : Under) (u w : View LatchEntry T)
+      → GoesOn latch_object primitive_of most_after_first (Some k) 0 u (resumed.Under under) w → Handed under 0 0 u w
+  begun-goes k under u w (inl e) = stopped-handed most_after_first (Some k) 0 under u w e
+      (let few = opened-few k e.over e.opens in let all = e.all in omega arith)
+  begun-goes k under u w (inr h) = held-handed most_after_first 0 under u w h
+
+  pub next-handed : (under : Under) (v w : View LatchEntry T) → NextHanded under v w → Handed under 0 1 v w
+  next-handed under v w (inl b) =
+      begun-handed under 0 b.number v b.from w b.drew (begun-goes b.number under b.from w b.goes)
+  next-handed under v w (inr b) =
+      begun-handed under 0 b.number v b.from w b.drew (once-handed 0 b.number under b.from w b.meets)
+
+  -- one that went on was handed back again
+  pub goes-handed : (ticket : Option ℕ) (payload : ℕ) (under : Under) (v w : View LatchEntry T)
+      → GoesOn latch_object primitive_of most_passed_over ticket payload v (resumed.Under under) w
+      → Handed under payload 0 v w
+  goes-handed ticket payload under v w (inl e) = stopped-handed most_passed_over ticket payload under v w e
+      (let few = drawn-few e.over in let all = e.all in omega arith)
+  goes-handed ticket payload under v w (inr h) = held-handed most_passed_over payload under v w h
+
+  finished-handed : (ticket : Option ℕ) (payload : ℕ) (under : Under) (v w : View LatchEntry T)
+      → FinishedOrHeld latch_object primitive_of ticket payload v (once.Under under) w → Handed under payload 0 v w
+  finished-handed (Some k) payload under v w f = once-handed payload k under v w f
+  finished-handed None payload under v w f =
+      reached-handed under payload f.number v f.from w f.drew (once-handed payload f.number under f.from w f.meets)
+
+  pub on-handed_back : (under again : Under) (v w : View LatchEntry T) → OnHanded under again v w
+      → Handed again (under_payload under) 0 v w
+  on-handed_back under again v w (inl goes) =
+      goes-handed (under_ticket under) (under_payload under) again v w goes
+  on-handed_back under again v w (inr f) =
+      finished-handed (under_ticket under) (under_payload under) again v w f
 
   -- one that had been handed back went on
   met-on : (payload : ℕ) (k : ℕ) (v w : View LatchEntry T)
@@ -311,54 +450,112 @@ module _ {T : Type 0} where
       (numbers e.over, ended-ran ends_refused state.Refused most_passed_over _ _ k v w e)
   on-ran under (missed_at k) v w f = ([], finished-on _ _ v w (once.Missed k) f)
 
+  -- one that ended wanted no slot
+  pub ended-only : (most : ℕ) (ticket : Option ℕ) (payload : ℕ) (v w : View LatchEntry T) (r : Resumed)
+      → ((under : Under) → r ≡ resumed.Under under → ⊥)
+      → GoesOn latch_object primitive_of most ticket payload v r w
+      → Resumes latch_object primitive_of most ticket payload v r w
+  ended-only most ticket payload v w r never goes = ⊎_elim
+      (λ (e : Resumes latch_object primitive_of most ticket payload v r w). e)
+      (λ (h : Held latch_object primitive_of most payload v r w). absurd (never h.under h.is)) goes
+
+  pub begun-only : (v w : View LatchEntry T) (r : Resumed) → ((under : Under) → r ≡ resumed.Under under → ⊥)
+      → BegunSo latch_object primitive_of 0 v r w → Begun latch_object primitive_of 0 v r w
+  begun-only v w r never b = record {
+    number = b.number;
+    from = b.from;
+    drew = b.drew;
+    after = b.after;
+    resumes = ended-only most_after_first (Some b.number) 0 b.from w r never b.goes;
+  }
+
+  met-only : (payload k : ℕ) (v w : View LatchEntry T) (r : EndedAtOnce)
+      → ((under : Under) → r ≡ once.Under under → ⊥) → MeetsOrHolds latch_object primitive_of payload k v r w
+      → MeetsAtOnce latch_object primitive_of payload k v r w
+  met-only payload k v w r never meets = ⊎_elim
+      (λ (m : MeetsAtOnce latch_object primitive_of payload k v r w). m)
+      (λ (h : HeldAtOnce latch_object primitive_of payload k v r w). absurd (never h.under h.is)) meets
+
+  pub once-only : (drawing : QueueStep) (payload : ℕ) (v w : View LatchEntry T) (r : EndedAtOnce)
+      → ((under : Under) → r ≡ once.Under under → ⊥)
+      → DrewAndMet latch_object primitive_of drawing (MeetsOrHolds latch_object primitive_of) payload v r w
+      → DrewAndMet latch_object primitive_of drawing (MeetsAtOnce latch_object primitive_of) payload v r w
+  once-only drawing payload v w r never b = record {
+    number = b.number;
+    from = b.from;
+    drew = b.drew;
+    meets = met-only payload b.number b.from w r never b.meets;
+  }
+
+  pub finished-only : (ticket : Option ℕ) (payload : ℕ) (v w : View LatchEntry T) (r : EndedAtOnce)
+      → ((under : Under) → r ≡ once.Under under → ⊥)
+      → FinishedOrHeld latch_object primitive_of ticket payload v r w
+      → FinishedAtOnce latch_object primitive_of ticket payload v r w
+  finished-only (Some k) payload v w r never f = met-only payload k v w r never f
+  finished-only None payload v w r never f = once-only reaches payload v w r never f
+
   -- a resume, whatever it answered
-  pub resumed-next : (v w : View LatchEntry T) (r : Resumed) → Begun latch_object primitive_of 0 v r w
+  pub resumed-next : (v w : View LatchEntry T) (r : Resumed) → BegunSo latch_object primitive_of 0 v r w
       → Next v (handed_back r) w
-  resumed-next v w (resumed.Served k) b = (served_at k, inl b)
-  resumed-next v w (resumed.Left k) b = (left_at k, inl b)
-  resumed-next v w (resumed.Refused k) b = (refused_at k, b)
-  resumed-next v w (resumed.Under under) b = b
+  resumed-next v w (resumed.Served k) b = (served_at k, inl (begun-only v w _ (λ under is. cc) b))
+  resumed-next v w (resumed.Left k) b = (left_at k, inl (begun-only v w _ (λ under is. cc) b))
+  resumed-next v w (resumed.Refused k) b = (refused_at k, begun-only v w _ (λ under is. cc) b)
+  resumed-next v w (resumed.Under under) b = inl b
 
-  pub ended-next : (v w : View LatchEntry T) (r : EndedAtOnce) → BegunAtOnce latch_object primitive_of 0 v r w
-      → Next v None w
-  ended-next v w (once.Served k) b = (served_at k, inr b)
-  ended-next v w (once.Left k) b = (left_at k, inr b)
-  ended-next v w (once.Missed k) b = (missed_at k, b)
-  ended-next v w (once.Under under) b = absurd b.meets
+  pub ended-next : (v w : View LatchEntry T) (r : EndedAtOnce)
+      → DrewAndMet latch_object primitive_of begins (MeetsOrHolds latch_object primitive_of) 0 v r w
+      → Next v (handed_back_at_once r) w
+  ended-next v w (once.Served k) b = (served_at k, inr (once-only begins 0 v w _ (λ under is. cc) b))
+  ended-next v w (once.Left k) b = (left_at k, inr (once-only begins 0 v w _ (λ under is. cc) b))
+  ended-next v w (once.Missed k) b = (missed_at k, once-only begins 0 v w _ (λ under is. cc) b)
+  ended-next v w (once.Under under) b = inr b
 
-  -- in simple mode none is handed back
-  pub next-none : (v w : View LatchEntry T) (r : EndedAtOnce) → BegunAtOnce latch_object primitive_of 0 v r w
-      → handed_back_at_once r ≡ None
-  next-none v w (once.Served k) b = refl
-  next-none v w (once.Left k) b = refl
-  next-none v w (once.Missed k) b = refl
-  next-none v w (once.Under under) b = absurd b.meets
+  -- in simple mode one is handed back for want of a slot alone
+  drawn-wants : (payload k : ℕ) (under : Under) (v u w : View LatchEntry T) → IsSame v u
+      → u.facts.heads ≡ v.facts.heads → MeetsOrHolds latch_object primitive_of payload k u (once.Under under) w
+      → WantsSlot under v w
+  drawn-wants payload k under v u w same heads m =
+      wants-since under v u w same (prefix-is v.facts.heads u.facts.heads heads)
+      (once-wants payload k under u w (once-held payload k under u w m))
+
+  pub next-wants : (v w : View LatchEntry T) (r : EndedAtOnce)
+      → DrewAndMet latch_object primitive_of begins (MeetsOrHolds latch_object primitive_of) 0 v r w
+      → IfSome (handed_back_at_once r) (λ under. WantsSlot under v w)
+  next-wants v w (once.Served k) b = tt
+  next-wants v w (once.Left k) b = tt
+  next-wants v w (once.Missed k) b = tt
+  next-wants v w (once.Under under) b =
+      drawn-wants 0 b.number under v b.from w b.drew.same (ap (λ (f : Facts). f.heads) b.drew.facts_are) b.meets
+
+  finished-wants : (ticket : Option ℕ) (payload : ℕ) (under : Under) (v w : View LatchEntry T)
+      → FinishedOrHeld latch_object primitive_of ticket payload v (once.Under under) w → WantsSlot under v w
+  finished-wants (Some k) payload under v w f = once-wants payload k under v w (once-held payload k under v w f)
+  finished-wants None payload under v w f = drawn-wants payload f.number under v f.from w f.drew.same
+      (ap (λ (g : Facts). g.heads) f.drew.facts_are) f.meets
+
+  pub on-wants : (ticket : Option ℕ) (payload : ℕ) (v w : View LatchEntry T) (r : EndedAtOnce)
+      → FinishedOrHeld latch_object primitive_of ticket payload v r w
+      → IfSome (handed_back_at_once r) (λ under. WantsSlot under v w)
+  on-wants ticket payload v w (once.Served k) f = tt
+  on-wants ticket payload v w (once.Left k) f = tt
+  on-wants ticket payload v w (once.Missed k) f = tt
+  on-wants ticket payload v w (once.Under under) f = finished-wants ticket payload under v w f
 
   pub resumed-on : (under : Under) (v w : View LatchEntry T) (r : Resumed)
-      → Resumes latch_object primitive_of most_passed_over (under_ticket under) (under_payload under) v r w
+      → GoesOn latch_object primitive_of most_passed_over (under_ticket under) (under_payload under) v r w
       → On under v (handed_back r) w
-  resumed-on under v w (resumed.Served k) e = (served_at k, inl e)
-  resumed-on under v w (resumed.Left k) e = (left_at k, inl e)
-  resumed-on under v w (resumed.Refused k) e = (refused_at k, e)
-  resumed-on under v w (resumed.Under again) e = e
-
-  -- none that went on is handed back again in simple mode
-  pub never-under : (ticket : Option ℕ) (payload : ℕ) (under : Under) (v w : View LatchEntry T)
-      → FinishedAtOnce latch_object primitive_of ticket payload v (once.Under under) w → ⊥
-  never-under (Some k) payload under v w f = f
-  never-under None payload under v w f = f.meets
+  resumed-on under v w (resumed.Served k) e =
+      (served_at k, inl (ended-only most_passed_over _ _ v w _ (λ under is. cc) e))
+  resumed-on under v w (resumed.Left k) e =
+      (left_at k, inl (ended-only most_passed_over _ _ v w _ (λ under is. cc) e))
+  resumed-on under v w (resumed.Refused k) e =
+      (refused_at k, ended-only most_passed_over _ _ v w _ (λ under is. cc) e)
+  resumed-on under v w (resumed.Under again) e = inl e
 
   pub ended-on : (under : Under) (v w : View LatchEntry T) (r : EndedAtOnce)
-      → FinishedAtOnce latch_object primitive_of (under_ticket under) (under_payload under) v r w → On under v None w
-  ended-on under v w (once.Served k) f = (served_at k, inr f)
-  ended-on under v w (once.Left k) f = (left_at k, inr f)
-  ended-on under v w (once.Missed k) f = (missed_at k, f)
-  ended-on under v w (once.Under again) f = absurd (never-under (under_ticket under) (under_payload under) again v w f)
-
-  pub on-none : (under : Under) (v w : View LatchEntry T) (r : EndedAtOnce)
-      → FinishedAtOnce latch_object primitive_of (under_ticket under) (under_payload under) v r w
-      → handed_back_at_once r ≡ None
-  on-none under v w (once.Served k) f = refl
-  on-none under v w (once.Left k) f = refl
-  on-none under v w (once.Missed k) f = refl
-  on-none under v w (once.Under again) f = absurd (never-under (under_ticket under) (under_payload under) again v w f)
+      → FinishedOrHeld latch_object primitive_of (under_ticket under) (under_payload under) v r w
+      → On under v (handed_back_at_once r) w
+  ended-on under v w (once.Served k) f = (served_at k, inr (finished-only _ _ v w _ (λ under is. cc) f))
+  ended-on under v w (once.Left k) f = (left_at k, inr (finished-only _ _ v w _ (λ under is. cc) f))
+  ended-on under v w (once.Missed k) f = (missed_at k, finished-only _ _ v w _ (λ under is. cc) f)
+  ended-on under v w (once.Under again) f = inr f

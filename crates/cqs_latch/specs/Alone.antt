@@ -102,27 +102,29 @@ module _ {T : Type 0} where
     pub seen : w.seen ≡ v.seen ++ (own ++ woken_entries ends)
     pub due : ends_due v ≡ ends ++ ends_due w
 
-  -- The last count down of simple mode ends all of them, and so does the end of what was owed.
+  -- The last count down of simple mode ends all of them, unless one is still owed, and so does the
+  -- end of what was owed.
   abbrev pub OpensByNumber : View LatchEntry T → Down → View LatchEntry T → Type 0
   OpensByNumber v Already w = Unit {0}
   OpensByNumber v (Left left) w = Unit {0}
   OpensByNumber v Last w =
       w.seen
       ≡ v.seen ++ (entry.DownLast v.number ∷ entry.Open v.number ∷ woken_entries (ends_due v))
-  OpensByNumber v (LastOwing owed) w = ⊥
+  OpensByNumber v (LastOwing owed) w =
+      EndsFirst (entry.DownLast v.number ∷ entry.Open v.number ∷ []) v w
 
   abbrev pub FinishesByNumber : View LatchEntry T → Result (Unit {0}) Owed → View LatchEntry T
       → Type 0
   FinishesByNumber v (Ok done) w = w.seen ≡ v.seen ++ woken_entries (ends_due v)
-  FinishesByNumber v (Err again) w = ⊥
+  FinishesByNumber v (Err again) w = EndsFirst [] v w
 
-  -- A wait passes, or comes with the next number.
+  -- A wait passes, or comes with the next number, or is refused by that number or below the limit.
   abbrev pub IsPlainWait : View LatchEntry T → Result LatchWait AcquireError → Type 0
   IsPlainWait v (Ok Passed) = (plain_after v).count ≡ 0
   IsPlainWait v (Ok (Later wait)) =
       ((plain_after v).opened ≡ false) × ((place_of wait).index ≡ (plain_after v).waiters.next)
   IsPlainWait v (Err Worn) = v.limit ≤ (plain_after v).waiters.next
-  IsPlainWait v (Err Crowded) = ⊥
+  IsPlainWait v (Err Crowded) = (plain_after v).waiters.next < v.limit
 
   -- the wait k of the pass is in the line, or was served
   abbrev pub IsPlainPoll : ℕ → View LatchEntry T → LatchPolled → Type 0

@@ -1,8 +1,10 @@
 -- What the steps of a call found, and where in the history it was so.
-use Rattle.std.specs.Prelude.{◌≡◌, ℕ, List, ◌∷◌, ◌++◌}
+use Rattle.std.specs.Prelude.{◌≡◌, ℕ, List, ◌∷◌, ◌++◌, None}
 use Rattle.cqs_core.specs.declared.cells.CoreState.{CoreState}
+use Rattle.cqs_core.specs.declared.doings.Doing.TheVariants as doing
 use Rattle.cqs_latch_object.specs.declared.entries.LatchEntry.{LatchEntry}
 use Rattle.cqs_latch_object.specs.LatchObject.{Latch}
+use Rattle.cqs_rule_laws.specs.declared.view.Facts.{Facts}
 use Rattle.cqs_rule_laws.specs.declared.view.Sighting.{Sighting}
 use Rattle.cqs_rule_laws.specs.declared.view.Sighting.TheVariants.{Word}
 use Rattle.cqs_rule_laws.specs.declared.view.View.{View}
@@ -14,6 +16,11 @@ use Rattle.cqs_latch.specs.declared.client.LatchClient.{LatchClient}
 use Rattle.cqs_latch.specs.Latch.{latch_primitive}
 use Rattle.cqs_latch.specs.LatchMade.{count_of, mode_of}
 use Rattle.cqs_latch.specs.LatchTold.{latch_after}
+
+-- an idle pass at these facts that made these loads, and is idle again
+abbrev pub facts_turned : List Sighting → Facts → Facts
+facts_turned loads f =
+    record f { doing = doing.Idle; last = None; reached = 0; found = f.found ++ loads }
 
 module _ {T : Type 0} where
   abbrev pub primitive_of : LatchClient T → Primitive LatchEntry T

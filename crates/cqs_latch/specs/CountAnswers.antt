@@ -1,25 +1,27 @@
 -- What a count down and the end of its resumptions answer, and why.
-use Rattle.std.specs.Prelude.{◌≡◌, ◌⊎◌, ℕ, ◌+◌, ◌%◌, ◌^◌, ◌<◌, List, [], ◌∷◌, length, pos, Result, Ok, Err}
+use Rattle.std.specs.Prelude.{◌≡◌, ◌⊎◌, ℕ, ◌+◌, ◌%◌, ◌^◌, ◌<◌, List, [], ◌∷◌, length, None, pos, Result, Ok, Err}
 use Rattle.cqs_core.specs.declared.doings.Doing.TheVariants as doing
 use Rattle.cqs_latch_object.specs.declared.entries.LatchEntry.{LatchEntry}
 use Rattle.cqs_latch_object.specs.declared.entries.LatchEntry.TheVariants as entry
-use Rattle.cqs_resume.specs.Resumes.{most_passed_over}
 use Rattle.cqs_rule_laws.specs.declared.view.Facts.{Facts}
+use Rattle.cqs_rule_laws.specs.declared.view.Sighting.TheVariants.{Word}
 use Rattle.cqs_rule_laws.specs.declared.view.View.{View}
+use Rattle.cqs_rule_laws.specs.Layout.{client_place}
 use Rattle.cqs_words.specs.State.{count_in}
 use Rattle.cqs_words.specs.Waiters.{waiters_in}
 use Rattle.cqs_latch.specs.declared.answers.Owed.{Owed}
 use Rattle.cqs_latch.specs.declared.answers.Down.{Down}
 use Rattle.cqs_latch.specs.declared.answers.Down.TheVariants.{Left, Last, LastOwing, Already}
-use Rattle.cqs_latch.specs.Answers.{WasUsed}
+use Rattle.cqs_latch.specs.Answers.{WasAbove, WasUsed}
 use Rattle.cqs_rule_laws.specs.CallRule.{IsReady}
 use Rattle.cqs_latch.specs.Calls.{CallRule, CallRuleEnding, Rests}
-use Rattle.cqs_rule_laws.specs.Causes.{PassedOver}
-use Rattle.cqs_latch.specs.Causes.{WordWas}
+use Rattle.cqs_rule.specs.Claims.{WantsSlot, WasCrowded}
+use Rattle.cqs_rule.specs.Owed.{under_ticket}
+use Rattle.cqs_latch.specs.Causes.{WordWas, facts_turned}
 use Rattle.cqs_latch.specs.Entries.{counted_entries}
 use Rattle.cqs_latch.specs.Owed.{HasOwed, owed_under, owed_further, owed_reached}
 use Rattle.cqs_latch.specs.LatchTold.{ReadsCount, ReadsWaiters}
-use Rattle.cqs_latch.specs.Waking.{Ending, woken_entries, Woke, NextHanded, OnEnded, OnHanded}
+use Rattle.cqs_latch.specs.Waking.{Ending, woken_entries, Woke, IsHandedFor, NextHanded, OnEnded, OnHanded}
 
 -- the pass is between two calls, unless it owes what was handed back
 abbrev pub IsReadyAfter : Down → Facts → Type 0
@@ -36,6 +38,24 @@ OwesNothing Last = Unit {0}
 OwesNothing (LastOwing owed) = ⊥
 
 module _ {T : Type 0} where
+  -- what was handed back, if anything, was so for want of a slot
+  abbrev pub OwesForSlot : View LatchEntry T → Down → View LatchEntry T → Type 0
+  OwesForSlot v Already w = Unit {0}
+  OwesForSlot v (Left left) w = Unit {0}
+  OwesForSlot v Last w = Unit {0}
+  OwesForSlot v (LastOwing owed) w = WantsSlot (owed_under owed) v w
+
+  -- A count down was refused as crowded: the count was loaded above 0, and then there was no slot
+  -- for a spare one. The count was loaded once more to turn back, and the call has no entry.
+  pub record IsRefused (v w : View LatchEntry T) : Type 0 where
+    pub called : CallRule v [] [] w
+    pub above : WasAbove v w
+    pub count : ℕ
+    pub back : ℕ
+    pub crowded : WasCrowded 1
+        (facts_turned (Word (client_place 0) count ∷ Word (client_place 0) back ∷ []) v.facts) v w
+    pub rests : Rests v.facts.waits w
+
   -- One was taken from the count, which was found as this.
   pub record WasCounted (v : View LatchEntry T) (left : ℕ) (own : List LatchEntry)
       (w : View LatchEntry T) : Type 0 where
@@ -64,10 +84,9 @@ module _ {T : Type 0} where
     pub waits : x.facts.waits ≡ v.facts.waits
     pub passed : x.facts.passed ≡ v.facts.passed
 
-  -- one of the resumptions was handed back: the pass owes it, with those after it, and the call has
-  -- passed over as many numbers as one call may
+  -- one of the resumptions was handed back, for this cause: the pass owes it, with those after it
   pub record HandsBack (owed : Owed) (v w : View LatchEntry T) : Type 0 where
-    pub over : PassedOver most_passed_over v w
+    pub why : IsHandedFor (owed_under owed) v w
     pub owes : HasOwed w.facts owed
     pub waits_are : w.facts.waits ≡ v.facts.waits
 
@@ -96,7 +115,7 @@ module _ {T : Type 0} where
 
   -- All that were owed ended: the one that was handed back, which went on from its ticket, and
   -- those after it. Or that one was handed back again; or it ended, and one after it was handed
-  -- back. Then the number that was drawn last has grown.
+  -- back. Then the number that was drawn last has grown, unless there was no slot.
   abbrev pub Finishes : Owed → View LatchEntry T → Result (Unit {0}) Owed → List Ending
       → View LatchEntry T → Type 0
   Finishes owed v (Ok done) ends w =
@@ -104,7 +123,8 @@ module _ {T : Type 0} where
       × (length rest ≡ owed_further owed) × OnEnded (owed_under owed) e v u × Woke rest u w
       × Rests v.facts.waits w
   Finishes owed v (Err again) ends w =
-      HandsBack again v w × (owed_reached owed < owed_reached again)
+      HandsBack again v w
+      × (under_ticket (owed_under again) ≡ None → owed_reached owed < owed_reached again)
       × (((ends ≡ []) × (owed_further again ≡ owed_further owed)
       × OnHanded (owed_under owed) (owed_under again) v w)
       ⊎ ((e : Ending) × (rest : List Ending) × (u : View LatchEntry T) × (x : View LatchEntry T)

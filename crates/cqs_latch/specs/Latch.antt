@@ -79,12 +79,18 @@ abbrev pub latch_manner : CancelMode → Manner
 latch_manner Smart = record { leaving = asks; has_door = true; source = owed_further }
 latch_manner Simple = record { leaving = at_once; has_door = true; source = owed_further }
 
+-- Who opens the latch owes a resumption for each waiter that is counted, and so many have to fit 32
+-- bits. In simple mode all who ever came are counted: no more than the numbers drawn and 32 passes.
+abbrev pub latch_limit : ℕ
+latch_limit = 4294967232
+
 abbrev pub latch_primitive : {T : Type 0} → CancelMode → ℕ → Primitive LatchEntry T
 latch_primitive mode size = record {
   opening = record { size = size; mode = mode };
   shows = λ c words log handed. ShowsLatch mode size c words log;
   manner = latch_manner mode;
   words = state_word (pos size) ∷ waiters_word 0 (size == 0) ∷ [];
+  most_limit = latch_limit;
   values = 0;
   held = 0;
   opens = λ has slot. ⊥;

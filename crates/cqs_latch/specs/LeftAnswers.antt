@@ -3,7 +3,6 @@ use Rattle.std.specs.Prelude.{◌≡◌, ◌⊎◌, ℕ, Bool, true, false, List
 use Rattle.cqs_core.specs.declared.cells.CoreState.TheVariants as state
 use Rattle.cqs_latch_object.specs.declared.entries.LatchEntry.{LatchEntry}
 use Rattle.cqs_latch_object.specs.declared.entries.LatchEntry.TheVariants as entry
-use Rattle.cqs_resume.specs.Resumes.{most_passed_over}
 use Rattle.cqs_rule_laws.specs.declared.config.CancelMode.{CancelMode}
 use Rattle.cqs_rule_laws.specs.declared.config.CancelMode.TheVariants.{Smart, Simple}
 use Rattle.cqs_rule_laws.specs.declared.view.Facts.{Facts}
@@ -14,12 +13,11 @@ use Rattle.cqs_latch.specs.declared.answers.LatchLeft.{LatchLeft}
 use Rattle.cqs_latch.specs.declared.answers.LatchLeft.TheVariants.{Gone, GoneOwing, TooLate}
 use Rattle.cqs_rule_laws.specs.CallRule.{IsReady}
 use Rattle.cqs_latch.specs.Calls.{CallRuleEnding, Rests}
-use Rattle.cqs_rule_laws.specs.Causes.{PassedOver}
 use Rattle.cqs_latch.specs.Causes.{WordWas, CellWas, CellWasOnce}
 use Rattle.cqs_latch.specs.Entries.{left_entries}
-use Rattle.cqs_latch.specs.Owed.{HasOwed, owed_further}
+use Rattle.cqs_latch.specs.Owed.{HasOwed, owed_under, owed_further}
 use Rattle.cqs_latch.specs.LatchTold.{ReadsWaiters}
-use Rattle.cqs_latch.specs.Waking.{Ending, woken_entries, EndsSo}
+use Rattle.cqs_latch.specs.Waking.{Ending, IsHandedFor, woken_entries, EndsSo}
 
 -- the pass is between two calls, unless it owes what was handed back
 abbrev pub IsReadyLeft : LatchLeft → Facts → Type 0
@@ -61,7 +59,7 @@ module _ {T : Type 0} where
       × Rests (without k v.facts.waits) w
   LeftSo Smart k v (GoneOwing owed) ends w =
       (ends ≡ []) × CellWasOnce state.Waiter k v w × WasAsked false k v w
-      × CellWasOnce state.Delegated k v w × PassedOver most_passed_over v w
+      × CellWasOnce state.Delegated k v w × IsHandedFor (owed_under owed) v w
       × HasOwed w.facts owed × (owed_further owed ≡ 0)
       × (w.facts.waits ≡ without k v.facts.waits)
   LeftSo Simple k v (GoneOwing owed) ends w = ⊥

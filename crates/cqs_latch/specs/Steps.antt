@@ -3,7 +3,7 @@ use Rattle.std.specs.Prelude.{◌≡◌, ℕ, Option, None}
 use Rattle.cqs_core.specs.QueueSteps.{installs, takes}
 use Rattle.cqs_latch_object.specs.declared.entries.LatchEntry.{LatchEntry}
 use Rattle.cqs_resume.specs.declared.resumed.Resumed.{Resumed}
-use Rattle.cqs_resume.specs.Resumes.{Resumes, most_passed_over}
+use Rattle.cqs_resume.specs.Resumes as resumes
 use Rattle.cqs_rule.specs.declared.queue.tokens.Under.{Under}
 use Rattle.cqs_rule_laws.specs.declared.view.View.{View}
 use Rattle.cqs_rule.specs.Waits.{place_of, HasWait}
@@ -35,4 +35,4 @@ module _ {T : Type 0} where
   abbrev pub GoesOn : ℕ → View LatchEntry T → Option Under → View LatchEntry T → Type 0
   GoesOn payload v under w =
       (ended : Resumed) × (under ≡ handed_back ended)
-      × Resumes latch_object primitive_of most_passed_over None payload v ended w
+      × resumes.GoesOn latch_object primitive_of resumes.most_passed_over None payload v ended w

@@ -1,17 +1,20 @@
 -- The resumptions of a latch: how each ended, with which entries, and what they leave of the pass.
 use Rattle.std.specs.Prelude.{◌≡◌, ◌⊎◌, ℕ, ◌+◌, ◌<◌, ◌≤◌, List, [], ◌∷◌, ◌++◌, length, Option, Some, None}
 use Rattle.cqs_core.specs.declared.cells.CoreState.TheVariants as state
+use Rattle.cqs_core.specs.QueueSteps.{begins}
 use Rattle.cqs_latch_object.specs.declared.entries.LatchEntry.{LatchEntry}
 use Rattle.cqs_latch_object.specs.declared.entries.LatchEntry.TheVariants as entry
 use Rattle.cqs_resume.specs.declared.at_once.EndedAtOnce.{EndedAtOnce}
 use Rattle.cqs_resume.specs.declared.at_once.EndedAtOnce.TheVariants as once
 use Rattle.cqs_resume.specs.declared.resumed.Resumed.{Resumed}
 use Rattle.cqs_resume.specs.declared.resumed.Resumed.TheVariants as resumed
-use Rattle.cqs_resume.specs.AtOnce.{BegunAtOnce, FinishedAtOnce}
-use Rattle.cqs_resume.specs.Begins.{Begun}
-use Rattle.cqs_resume.specs.Resumes.{Resumes, most_passed_over}
+use Rattle.cqs_resume.specs.AtOnce.{BegunAtOnce, DrewAndMet, FinishedAtOnce, FinishedOrHeld, MeetsOrHolds}
+use Rattle.cqs_resume.specs.Begins.{Begun, BegunSo}
+use Rattle.cqs_resume.specs.Resumes.{GoesOn, Resumes, most_passed_over}
 use Rattle.cqs_rule.specs.declared.queue.tokens.Under.{Under}
 use Rattle.cqs_rule_laws.specs.declared.view.View.{View}
+use Rattle.cqs_rule_laws.specs.Causes.{PassedOver}
+use Rattle.cqs_rule.specs.Claims.{WantsSlot}
 use Rattle.cqs_rule.specs.Owed.{under_payload, under_ticket, under_reached}
 use Rattle.cqs_latch.specs.declared.answers.Owed.{Owed}
 use Rattle.cqs_latch.specs.Causes.{primitive_of, CellWas}
@@ -48,10 +51,10 @@ handed_back_at_once (once.Missed k) = None
 handed_back_at_once (once.Under under) = Some under
 
 -- The number that was drawn last for the resumptions of a pass, at first this, never falls; and
--- where one is handed back, it has grown.
+-- where one is handed back without a ticket, it has grown.
 abbrev pub HasGrown : {T : Type 0} → ℕ → Option Under → View LatchEntry T → Type 0
 HasGrown reached None w = reached ≤ w.facts.reached
-HasGrown reached (Some under) w = reached < under_reached under
+HasGrown reached (Some under) w = under_ticket under ≡ None → reached < under_reached under
 
 abbrev pub ending_entries : Ending → List LatchEntry
 ending_entries (served_at k) = entry.Deliver k ∷ []
@@ -83,9 +86,18 @@ module _ {T : Type 0} where
   NextEnded (refused_at k) v w = Begun latch_object primitive_of 0 v (resumed.Refused k) w
   NextEnded (missed_at k) v w = BegunAtOnce latch_object primitive_of 0 v (once.Missed k) w
 
-  -- it was begun, and handed back after as many numbers as one call passes over
+  -- why a call handed it back: it passed over as many numbers as one call may; or there was no slot
+  -- for the segment of the number whose ticket it has
+  abbrev pub IsHandedFor : Under → View LatchEntry T → View LatchEntry T → Type 0
+  IsHandedFor under v w =
+      ((under_ticket under ≡ None) × PassedOver most_passed_over v w) ⊎ WantsSlot under v w
+
+  -- it was begun, in smart mode or in simple mode, and handed back
   abbrev pub NextHanded : Under → View LatchEntry T → View LatchEntry T → Type 0
-  NextHanded under v w = Begun latch_object primitive_of 0 v (resumed.Under under) w
+  NextHanded under v w =
+      BegunSo latch_object primitive_of 0 v (resumed.Under under) w
+      ⊎ DrewAndMet latch_object primitive_of begins (MeetsOrHolds latch_object primitive_of) 0 v
+      (once.Under under) w
 
   abbrev pub Next : View LatchEntry T → Option Under → View LatchEntry T → Type 0
   Next v None w = (e : Ending) × NextEnded e v w
@@ -113,8 +125,10 @@ module _ {T : Type 0} where
   -- or was handed back again
   abbrev pub OnHanded : Under → Under → View LatchEntry T → View LatchEntry T → Type 0
   OnHanded under again v w =
-      Resumes latch_object primitive_of most_passed_over (under_ticket under)
+      GoesOn latch_object primitive_of most_passed_over (under_ticket under)
       (under_payload under) v (resumed.Under again) w
+      ⊎ FinishedOrHeld latch_object primitive_of (under_ticket under) (under_payload under) v
+      (once.Under again) w
 
   abbrev pub On : Under → View LatchEntry T → Option Under → View LatchEntry T → Type 0
   On under v None w = (e : Ending) × OnEnded under e v w

@@ -29,7 +29,7 @@ pub enum LatchLeft {
     /// The wait is over.
     Gone,
     /// The wait is over. A resumption had left its value to it and is still owed: it passed over as
-    /// many numbers as one call may.
+    /// many numbers as one call may, or there is no slot for the segment of the next.
     GoneOwing(Owed),
     /// The latch was opened, and the wait served before.
     TooLate,
@@ -43,7 +43,8 @@ pub enum Down {
     /// It was the last one: the latch is open, and each waiter was resumed.
     Last,
     /// It was the last one, and the latch is open. One resumption passed over as many numbers as
-    /// one call may: it is still owed, with those after it.
+    /// one call may, or there is no slot for the segment of its next: it is still owed, with those
+    /// after it.
     LastOwing(Owed),
     /// The count was used up before.
     Already,

@@ -1,36 +1,42 @@
 //! The count down, and the end of what it owes.
 
-ghost use Rattle.std.specs.Prelude.{◌≡◌, ◌+◌, true, pos, ◌≤ℤ◌, IsOk, IfOk, IfErr, OnOk};
+ghost use Rattle.std.specs.Prelude.{◌≡◌, ◌+◌, true, pos, ◌≤ℤ◌, ◌<◌, IsOk, IfOk, IfErr, OnErr, OnOk};
 ghost use Rattle.cqs_words.specs.State.{count_in, is_above_zero};
 ghost use Rattle.cqs_latch.specs.Alone.{FinishesByNumber, FinishesInOrder, IsPlainCount, IsPlainFinish, IsPlainOpening, OpensByNumber, OpensInOrder};
-ghost use Rattle.cqs_latch.specs.CountAnswers.{HasCounted, HasFinished, IsReadyAfter, OwesNothing};
+ghost use Rattle.cqs_latch.specs.CountAnswers.{HasCounted, HasFinished, IsReadyAfter, IsRefused, OwesForSlot, OwesNothing};
 ghost use Rattle.cqs_latch.specs.LatchMade.{mode_of};
-ghost use Rattle.cqs_latch.specs.Owed.{HasOwed};
+ghost use Rattle.cqs_latch.specs.Owed.{HasOwed, owed_reached, owed_under};
 ghost use Rattle.cqs_rule_laws.specs.CallRule.{IsReady};
 ghost use Rattle.cqs_latch.specs.Calls.{IsMine, KeepsWaits};
-ghost use Rattle.cqs_rule.specs.Passes.{pass_view, client_of};
+ghost use Rattle.cqs_rule.specs.Claims.{WantsSlot};
+ghost use Rattle.cqs_rule.specs.Passes.{ample_of, pass_view, client_of};
 ghost use Rattle.cqs_rule_laws.specs.declared.config.CancelMode.TheVariants.{Simple, Smart};
 
 use crate::answers::{Down, Owed};
 use crate::events::resumptions_for;
 use crate::latch::{Latch, LatchPass};
-use crate::steps::{count_down, load_to_count, open};
+use crate::steps::{count_down, load_to_count, open, turn_back};
 use cqs_rule::{Carries, Crowded};
 use cqs_words::StateWord;
 
 impl<T: Carries + Send> Latch<T> {
     /// Counts the latch down by one. Who counts down the last one opens it, and resumes each who
-    /// waits.
+    /// waits. It is refused as crowded where the count isn't used up, and there is no slot for a
+    /// segment.
     pub fn count_down(&self, pass: &mut LatchPass<T>) -> Result<Down, Crowded>
         requires belongs { IsMine self.now pass.old }
         requires ready { IsReady (pass_view pass.old).facts }
         ensures belongs { IsMine self.now pass.new }
-        ensures never_crowded { IsOk result }
+        ensures never_crowded { ample_of self.now.queue ≡ true → IsOk result }
+        ensures crowded { OnErr result (IsRefused (pass_view pass.old) (pass_view pass.new)) }
         ensures counted { IfOk result
             (λ down. HasCounted (pass_view pass.old) down (pass_view pass.new)) }
-        ensures simple_ends { mode_of (client_of self.now.queue) ≡ Simple
-            → IfOk result OwesNothing }
+        ensures simple_ends { ample_of self.now.queue ≡ true
+            → mode_of (client_of self.now.queue) ≡ Simple → IfOk result OwesNothing }
+        ensures simple_wants { mode_of (client_of self.now.queue) ≡ Simple
+            → IfOk result (λ down. OwesForSlot (pass_view pass.old) down (pass_view pass.new)) }
         ensures ready { IfOk result (λ down. IsReadyAfter down (pass_view pass.new).facts) }
+        ensures ready_again { OnErr result (IsReady (pass_view pass.new).facts) }
         ensures keeps { KeepsWaits (pass_view pass.old) (pass_view pass.new) }
         ensures alone { (pass_view pass.old).alone ≡ true
             → IfOk result (λ down. IsPlainCount (pass_view pass.old) down) }
@@ -47,6 +53,10 @@ impl<T: Carries + Send> Latch<T> {
         if !StateWord::is_above_zero(loaded) {
             return Ok(Down::Already);
         }
+        let Ok(()) = self.queue.claim_spares(pass, 1) else {
+            turn_back(&self.queue, pass, loaded);
+            return Err(Crowded);
+        };
         let found = count_down(&self.queue, pass, loaded);
         if !StateWord::is_above_zero(found) {
             return Ok(Down::Already);
@@ -63,13 +73,20 @@ impl<T: Carries + Send> Latch<T> {
     }
 
     /// Goes on with the resumptions of an opened latch that were handed back. It hands them back
-    /// again where 64 more numbers were passed over.
+    /// again where 64 more numbers were passed over, or there is no slot for the segment of the
+    /// next.
     pub fn finish(&self, pass: &mut LatchPass<T>, owed: Owed) -> Result<(), Owed>
         requires belongs { IsMine self.now pass.old }
         requires owes { HasOwed (pass_view pass.old).facts owed }
         ensures belongs { IsMine self.now pass.new }
         ensures finished { HasFinished owed (pass_view pass.old) result (pass_view pass.new) }
-        ensures simple_ends { mode_of (client_of self.now.queue) ≡ Simple → IsOk result }
+        ensures grown { ample_of self.now.queue ≡ true
+            → IfErr result (λ again. owed_reached owed < owed_reached again) }
+        ensures simple_ends { ample_of self.now.queue ≡ true
+            → mode_of (client_of self.now.queue) ≡ Simple → IsOk result }
+        ensures simple_wants { mode_of (client_of self.now.queue) ≡ Simple
+            → IfErr result (λ again. WantsSlot (owed_under again) (pass_view pass.old)
+            (pass_view pass.new)) }
         ensures ready { OnOk result (IsReady (pass_view pass.new).facts) }
         ensures owes { IfErr result (λ again. HasOwed (pass_view pass.new).facts again) }
         ensures keeps { KeepsWaits (pass_view pass.old) (pass_view pass.new) }

@@ -5,9 +5,10 @@ ghost use Rattle.cqs_core.specs.declared.doings.Doing.TheVariants as doing;
 ghost use Rattle.cqs_latch.specs.Alone.{EndsFirst, ServesFirst};
 ghost use Rattle.cqs_latch.specs.Calls.{IsMine};
 ghost use Rattle.cqs_latch.specs.LatchMade.{mode_of};
-ghost use Rattle.cqs_latch.specs.Owed.{owed_reached};
+ghost use Rattle.cqs_latch.specs.Owed.{owed_reached, owed_under};
 ghost use Rattle.cqs_latch.specs.Waking.{HasGrown, Next, On, Wakes};
-ghost use Rattle.cqs_rule.specs.Owed.{HasUnder, under_reached};
+ghost use Rattle.cqs_rule.specs.Claims.{WantsSlot};
+ghost use Rattle.cqs_rule.specs.Owed.{HasUnder, under_reached, under_ticket};
 ghost use Rattle.cqs_rule.specs.Passes.{pass_view, client_of};
 ghost use Rattle.cqs_rule_laws.specs.declared.config.CancelMode.TheVariants.{Smart, Simple};
 
@@ -17,7 +18,8 @@ use cqs_resume::{EndedAtOnce, Resumed, begin, begin_at_once, finish, finish_at_o
 use cqs_rule::{CancelMode, Carries, Under};
 
 impl<T: Carries + Send> Latch<T> {
-    // Resumes as many as the pass owes, or hands back the one that passed over too many numbers.
+    // Resumes as many as the pass owes, or hands back the one that passed over too many numbers, or
+    // found no slot.
     pub(crate) fn wake(&self, pass: &mut LatchPass<T>, many: u32) -> Option<Owed>
         requires belongs { IsMine self.now pass.old }
         requires idle { (pass_view pass.old).facts.doing ≡ doing.Idle }
@@ -25,15 +27,17 @@ impl<T: Carries + Send> Latch<T> {
         requires payload { 0 < many → (pass_view pass.old).facts.has.payload ≡ 0 }
         ensures belongs { IsMine self.now pass.new }
         ensures wakes { Wakes many (pass_view pass.old) result (pass_view pass.new) }
-        ensures grown { IfSome result
-            (λ owed. (pass_view pass.old).facts.reached < owed_reached owed) }
+        ensures grown { IfSome result (λ owed. under_ticket (owed_under owed) ≡ None
+            → (pass_view pass.old).facts.reached < owed_reached owed) }
         ensures in_order { (pass_view pass.old).alone ≡ true
             → mode_of (client_of self.now.queue) ≡ Smart
             → ServesFirst [] (pass_view pass.old) (pass_view pass.new) }
         ensures by_number { (pass_view pass.old).alone ≡ true
             → mode_of (client_of self.now.queue) ≡ Simple
             → EndsFirst [] (pass_view pass.old) (pass_view pass.new) }
-        ensures simple { mode_of (client_of self.now.queue) ≡ Simple → result ≡ None }
+        ensures simple { mode_of (client_of self.now.queue) ≡ Simple
+            → IfSome result (λ owed. WantsSlot (owed_under owed) (pass_view pass.old)
+            (pass_view pass.new)) }
     {
         let mut left = many;
         while left > 0 {
@@ -48,7 +52,8 @@ impl<T: Carries + Send> Latch<T> {
         None
     }
 
-    // Begins the next of them. In simple mode it ends at its first number.
+    // Begins the next of them. In simple mode it ends at its first number, if there is a slot for
+    // that.
     fn wake_next(&self, pass: &mut LatchPass<T>) -> Option<Under>
         requires belongs { IsMine self.now pass.old }
         requires idle { (pass_view pass.old).facts.doing ≡ doing.Idle }
@@ -64,7 +69,9 @@ impl<T: Carries + Send> Latch<T> {
         ensures by_number { (pass_view pass.old).alone ≡ true
             → mode_of (client_of self.now.queue) ≡ Simple
             → EndsFirst [] (pass_view pass.old) (pass_view pass.new) }
-        ensures simple { mode_of (client_of self.now.queue) ≡ Simple → result ≡ None }
+        ensures simple { mode_of (client_of self.now.queue) ≡ Simple
+            → IfSome result (λ under. WantsSlot under (pass_view pass.old)
+            (pass_view pass.new)) }
     {
         match self.mode {
             CancelMode::Smart => handed_back(begin(&self.queue, pass, 0)),
@@ -86,7 +93,9 @@ impl<T: Carries + Send> Latch<T> {
         ensures by_number { (pass_view pass.old).alone ≡ true
             → mode_of (client_of self.now.queue) ≡ Simple
             → EndsFirst [] (pass_view pass.old) (pass_view pass.new) }
-        ensures simple { mode_of (client_of self.now.queue) ≡ Simple → result ≡ None }
+        ensures simple { mode_of (client_of self.now.queue) ≡ Simple
+            → IfSome result (λ under. WantsSlot under (pass_view pass.old)
+            (pass_view pass.new)) }
     {
         match self.mode {
             CancelMode::Smart => handed_back(finish(&self.queue, pass, under)),

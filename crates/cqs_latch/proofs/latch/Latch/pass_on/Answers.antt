@@ -5,4 +5,4 @@ pub resume-requires-clause-smart : goal.resume-requires-clause-smart
 resume-requires-clause-smart g c = λ given lives. is-smart _ c.requires.smart
 
 pub returns-clause-on : goal.returns-clause-on
-returns-clause-on g c = (c.resume.result, c.handed_back.ensures, c.resume.ensures.ample c.args.self.now.ample_is)
+returns-clause-on g c = (c.resume.result, c.handed_back.ensures, c.resume.ensures.resumed)

@@ -4,7 +4,8 @@ use Rattle.cqs_latch.specs.Waking.{HasGrown, Next}
 use Rattle.cqs_latch.proofs.AloneByNumber.{ends-nobody, ends-then}
 use Rattle.cqs_latch.proofs.AloneOrder.{serves-nobody, serves-then}
 use Rattle.cqs_latch.proofs.Grown.{smart-where}
-use Rattle.cqs_latch.proofs.WakeSteps.{next-ran, woke-on}
+use Rattle.cqs_latch.proofs.WakeSteps.{next-ran, woke-on, woke-ran}
+use Rattle.cqs_rule.proofs.Claiming.{wants-since}
 use Rattle.cqs_latch.proofs.latch.Latch.wake.Goals as goal
 
 pub loop-left-init : goal.loop-left-init
@@ -71,13 +72,22 @@ loop-left-preserved g c =
     }
 
 pub returns-in-Some-clause-grown : goal.returns-in-Some-clause-grown
-returns-in-Some-clause-grown g c =
+returns-in-Some-clause-grown g c = λ none.
     let u = pass_view c.loop-left.pass in
     let w = pass_view c.wake_next.new.pass in
-    let smart = smart-where _ _ _ c.wake_next.ensures.simple c.in-Some.is in
+    let smart = smart-where _ _ u w c.in-Some.ensures.simple none in
     let before = c.loop-left.invariant.reached smart in
-    let last = subst (λ z. HasGrown u.facts.reached z w) c.in-Some.is (c.wake_next.ensures.grown smart) in
+    let last = subst (λ z. HasGrown u.facts.reached z w) c.in-Some.is (c.wake_next.ensures.grown smart) none in
     omega (arith, before, last)
+
+pub returns-in-Some-clause-simple : goal.returns-in-Some-clause-simple
+returns-in-Some-clause-simple g c = λ simple.
+    let l = c.loop-left.invariant in
+    let v = pass_view c.args.pass.now in
+    let u = pass_view c.loop-left.pass in
+    let r = (woke-ran l.ran.0 v u c.requires.idle l.ran.2).1 in
+    wants-since c.in-Some.under v u (pass_view c.wake_next.new.pass) r.along.called.same r.heads
+    (c.in-Some.ensures.simple simple)
 
 pub returns-in-Some-clause-in_order : goal.returns-in-Some-clause-in_order
 returns-in-Some-clause-in_order g c = λ alone smart.

@@ -131,7 +131,7 @@ module _ {T : Type 0} where
 
   pub plain-last : (m : ℕ) (answer : Option Owing) (v x w : View BarrierEntry T) → Came true m v x
       → RanAll x answer w
-      → ((ks over : List ℕ) → Ran ks over x w → CallRule v (entry.ArriveLast v.number ∷ []) (delivers ks) w)
+      → ((ks : List ℕ) → Ran ks x w → CallRule v (entry.ArriveLast v.number ∷ []) (delivers ks) w)
       → IsLegal x.opening.size x.seen → KnowsAlone w → v.alone ≡ true → IsPlainArrive v (last_answer answer) w
   plain-last m None v x w c r called legal knows alone =
       let first = legal-alone v x (entry.ArriveLast v.number ∷ []) c.called legal alone in
@@ -140,10 +140,10 @@ module _ {T : Type 0} where
       let ran = r.2 in
       let ks = r.0 in
       let alone_x = c.called.same.alone ∙ alone in
-      let rule = called ks r.1 ran in
+      let rule = called ks ran in
       let whole = legal-alone v w (entry.ArriveLast v.number ∷ delivers ks) rule.called rule.legal alone in
       let none = served-all v w (after_entry (plain_after v) (entry.ArriveLast v.number)) ks whole.object refl knows
-      (ran.called.same.alone ∙ alone_x) r.3.idle r.3.further in
+      (ran.called.same.alone ∙ alone_x) r.4.idle r.4.further in
       let line : waiting_in v ≡ ks =
       sym (ap (λ (z : Barrier). numbers_of z.waiters.line) first.object)
       ∙ (ran.in_order alone_x ∙ (ap (λ l. ks ++ l) none ∙ append-nil ks)) in (
@@ -154,14 +154,14 @@ module _ {T : Type 0} where
       let first = legal-alone v x (entry.ArriveLast v.number ∷ []) c.called legal alone in
       let one : (plain_after v).remaining ≡ 1 =
       allowed-at v.opening.size v.seen [] [] x.seen (entry.ArriveLast v.number) first.seen first.legal in
-      let ran = r.2 in
+      let ran = r.1 in
       let ks = r.0 in
       let alone_x = c.called.same.alone ∙ alone in
       let line : waiting_in v ≡ ks ++ waiting_in w =
       sym (ap (λ (z : Barrier). numbers_of z.waiters.line) first.object) ∙ ran.in_order alone_x in
       record {
         served = ks;
-        called = called ks r.1 ran;
+        called = called ks ran;
         line = line;
         plain = plain-one v (ks ++ waiting_in w) one line;
       }
@@ -232,14 +232,14 @@ module _ {T : Type 0} where
   plain-finish ticket None v w owes r has legal knows knows' alone =
       let ran = r.2 in
       let ks = r.0 in
-      let f = ran-finished ks r.1 v w ran has legal in
+      let f = ran-finished ks v w ran has legal in
       let l = legal-alone v w (delivers ks) f.called.called legal alone in
       let none = served-all v w (plain_after v) ks l.object (owes-over v ticket (knows alone) owes) knows'
-      (ran.called.same.alone ∙ alone) r.3.idle r.3.further in
+      (ran.called.same.alone ∙ alone) r.4.idle r.4.further in
       let line : waiting_in v ≡ ks = ran.in_order alone ∙ (ap (λ z. ks ++ z) none ∙ append-nil ks) in
       (subst (λ z. CallRule v [] (delivers z) w) (sym line) f.called, none)
   plain-finish ticket (Some owing) v w owes r has legal knows knows' alone =
-      let ran = r.2 in (r.0, (ran-finished r.0 r.1 v w ran has legal).called, ran.in_order alone)
+      let ran = r.1 in (r.0, (ran-finished r.0 v w ran has legal).called, ran.in_order alone)
 
   -- a wait that is in the line, and one that was served
   in-line : (v w : View BarrierEntry T) (k : ℕ) (e : BarrierEntry) → Waits k v.number (plain_after v).waiters.line

@@ -1,5 +1,5 @@
--- An arrival is its steps: a load of the suspend counter, one taken from the remaining number, and then a suspend, or
--- the resumptions of the others.
+-- An arrival is its steps: a load of the suspend counter, claims of slots, one taken from the remaining number, and
+-- then a suspend, or the resumptions of the others.
 use Rattle.std.proofs.Common.{◌≡◌, inl, inr, ℕ, ◌-◌, ◌<◌, ◌≤◌, Bool, true, false, List, [], ◌∷◌, ◌++◌, length, Some, None, sym, refl, ap, ◌∙◌, subst, take, take_at, arith, if◌then◌else◌}
 use Rattle.std.proofs.lemmas.Bool.{eqb-true}
 use Rattle.std.proofs.lemmas.List.{append-nil}
@@ -13,25 +13,30 @@ use Rattle.cqs_core.specs.QueueSteps.{draws, takes}
 use Rattle.cqs_core.proofs.Places.{get-push_at}
 use Rattle.cqs_rule_laws.specs.declared.view.Facts.{Facts}
 use Rattle.cqs_rule_laws.specs.declared.view.Opening.{Opening}
+use Rattle.cqs_rule_laws.specs.declared.view.Spare.{Spare}
 use Rattle.cqs_rule_laws.specs.declared.view.View.{View}
 use Rattle.cqs_rule_laws.specs.Called.{Called}
 use Rattle.cqs_rule_laws.specs.Events.{in_any_case, facts_moved, moment}
+use Rattle.cqs_rule_laws.specs.Facts.{facts_counted}
 use Rattle.cqs_rule_laws.specs.Layout.{client_place}
 use Rattle.cqs_rule_laws.specs.Lists.{Has, IsPrefix}
 use Rattle.cqs_rule_laws.specs.Saw.{Saw}
+use Rattle.cqs_rule_laws.specs.SegmentSteps.{LeftBy}
+use Rattle.cqs_rule.specs.Claims.{Claimed, Crowds}
 use Rattle.cqs_rule.specs.Waits.{place_of}
+use Rattle.cqs_rule.proofs.Claiming.{called-left, crowded-after}
 use Rattle.cqs_rule_laws.proofs.Calls.{called-by, called-then, called-and}
 use Rattle.cqs_suspend.specs.Suspends.{EndsBy}
 use Rattle.cqs_barrier.specs.declared.answers.Arrived.{Arrived}
 use Rattle.cqs_barrier.specs.declared.answers.Arrived.TheVariants.{Last, LastOwing, Later}
 use Rattle.cqs_barrier.specs.declared.answers.Owing.{Owing}
-use Rattle.cqs_barrier.specs.Arriving.{NextIs, IsWorn, IsBelow, WasEarly, CameEarly, CameLast, Arrives, EndsAtCell, WaitsForOthers}
+use Rattle.cqs_barrier.specs.Arriving.{NextIs, IsWorn, IsBelow, IsCrowded, WasEarly, CameEarly, CameLast, Arrives, EndsAtCell, WaitsForOthers}
 use Rattle.cqs_barrier.specs.Barrier.{barrier_object, arrives}
 use Rattle.cqs_barrier.specs.BarrierWord.{OnWord}
 use Rattle.cqs_rule_laws.specs.CallRule.{IsReady}
 use Rattle.cqs_barrier.specs.Causes.{primitive_of}
 use Rattle.cqs_barrier.specs.Leaving.{RemainingWas}
-use Rattle.cqs_barrier.specs.Resuming.{OwesMore, Ran, RanAll}
+use Rattle.cqs_barrier.specs.Resuming.{OwesMore, owing_under, Ran, RanAll}
 use Rattle.cqs_barrier.specs.Word.{parties_in, remaining_in, is_last}
 use Rattle.cqs_rule_laws.proofs.Lists.{prefix-then}
 use Rattle.cqs_rule_laws.proofs.Prefixes.{prefix-same, saw-prefix}
@@ -39,6 +44,7 @@ use Rattle.cqs_rule_laws.proofs.Rules.{NoneName, call-rule_ending, call-rule_own
 use Rattle.cqs_suspend.proofs.Sat.{sat-taken, sat-installed}
 use Rattle.cqs_barrier.proofs.Endings.{owing-none, served-from}
 use Rattle.cqs_barrier.proofs.LeaveSteps.{remaining-was}
+use Rattle.cqs_barrier.proofs.ResumeSteps.{handed-since}
 
 abbrev arrive_entries : Bool → ℕ → List BarrierEntry
 arrive_entries b p = if b then entry.ArriveLast p ∷ [] else entry.ArriveDoor p ∷ []
@@ -74,7 +80,56 @@ module _ {T : Type 0} where
         };
       }
 
-  -- The pass loaded the counter below the limit, and a party of it arrived.
+  -- The pass loaded the counter as n, and claimed slots, or tried to.
+  pub record HasClaimed (n : ℕ) (v z : View BarrierEntry T) : Type 0 where
+    pub called : Called barrier_object v [] [] z
+    pub next : (object_after z.opening.size z.seen).waiters.next ≡ n
+    pub doing : z.facts.doing ≡ v.facts.doing
+    pub has : z.facts.has ≡ v.facts.has
+    pub waits : z.facts.waits ≡ v.facts.waits
+    pub passed : z.facts.passed ≡ v.facts.passed
+    pub heads : IsPrefix v.facts.heads z.facts.heads
+
+  pub has-claimed : (v u z : View BarrierEntry T) (n : ℕ) (heads : List (ℕ × ℕ)) (spares : List Spare) (duties : List ℕ)
+      → NextIs v n u → LeftBy heads spares duties u z → HasClaimed n v z
+  has-claimed v u z n heads spares duties next left =
+      let was = next.saw.facts_are in
+      let is = left.is in
+      record {
+        called = called-left barrier_object v u z _ spares duties next.saw (heads, left);
+        next = ap (λ (y : View BarrierEntry T). (object_after y.opening.size y.seen).waiters.next) is ∙ next.next;
+        doing = ap (λ (y : View BarrierEntry T). y.facts.doing) is ∙ ap (λ (f : Facts). f.doing) was;
+        has = ap (λ (y : View BarrierEntry T). y.facts.has) is ∙ ap (λ (f : Facts). f.has) was;
+        waits = ap (λ (y : View BarrierEntry T). y.facts.waits) is ∙ ap (λ (f : Facts). f.waits) was;
+        passed = ap (λ (y : View BarrierEntry T). y.facts.passed) is ∙ ap (λ (f : Facts). f.passed) was;
+        heads = (
+          heads,
+          ap (λ (y : View BarrierEntry T). y.facts.heads) is ∙ ap (λ (f : Facts). f.heads ++ heads) was,
+        );
+      }
+
+  pub claimed : (v u z : View BarrierEntry T) (n : ℕ) → NextIs v n u → Claimed 2 u z → HasClaimed n v z
+  claimed v u z n next c = has-claimed v u z n c.left.0 z.facts.spare_slots u.facts.duties next c.left.1
+
+  -- the slots could not be had
+  pub crowded : (v u z : View BarrierEntry T) (n : ℕ) → NextIs v n u → n < v.limit → Crowds 2 u z → IsReady v.facts
+      → Has v.number v.own → IsLegal z.opening.size z.seen → IsCrowded v z
+  crowded v u z n next low c ready has legal =
+      let h = has-claimed v u z n c.heads c.spares u.facts.duties next c.left in
+      record {
+        called = call-rule_own barrier_object v z [] [] h.called tt has legal;
+        count = n;
+        next = h.next;
+        below = low;
+        crowded = crowded-after barrier_object 2 (facts_counted v.limit n v.facts) v u z next.saw refl refl c;
+        rests = record {
+          ready = record { idle = h.doing ∙ ready.idle; further = ap (λ y. y.further) h.has ∙ ready.further };
+          held_is = ap (λ y. y.held) h.has;
+          waits_are = h.waits;
+        };
+      }
+
+  -- The pass loaded the counter below the limit, claimed slots, and a party of it arrived.
   pub record Came (b : Bool) (m : ℕ) (v x : View BarrierEntry T) : Type 0 where
     pub called : Called barrier_object v (arrive_entries b v.number) [] x
     pub at_load : List BarrierEntry
@@ -91,43 +146,44 @@ module _ {T : Type 0} where
     pub further : x.facts.has.further ≡ (if b then parties_in m - 1 else v.facts.has.further)
     pub waits : x.facts.waits ≡ v.facts.waits
     pub passed : x.facts.passed ≡ v.facts.passed
+    pub heads : IsPrefix v.facts.heads x.facts.heads
 
-  pub came : (b : Bool) (v u x : View BarrierEntry T) (n m : ℕ) → is_last m ≡ b → n < v.limit → NextIs v n u
-      → OnWord arrives in_any_case u m x → Came b m v x
-  came b v u x n m is low next o =
-      let number : u.number ≡ v.number = next.saw.same.number in
-      let was = next.saw.facts_are in
-      let now : Facts = facts_moved arrives (client_place 0) (moment u.opening u.number u.facts in_any_case m) in
+  pub came : (b : Bool) (v z x : View BarrierEntry T) (n m : ℕ) → is_last m ≡ b → n < v.limit → HasClaimed n v z
+      → OnWord arrives in_any_case z m x → Came b m v x
+  came b v z x n m is low h o =
+      let number : z.number ≡ v.number = h.called.same.number in
+      let old : IsPrefix v.seen z.seen = (h.called.more, h.called.seen) in
+      let now : Facts = facts_moved arrives (client_place 0) (moment z.opening z.number z.facts in_any_case m) in
       let after : x.facts ≡ now = o.saw.facts_are in
-      let so : arrive_entries (is_last m) u.number ≡ arrive_entries b v.number =
+      let so : arrive_entries (is_last m) z.number ≡ arrive_entries b v.number =
       λ i. arrive_entries (is i) (number i) in
-      let saw : Saw barrier_object u now (arrive_entries b v.number) x =
-      subst (λ es. Saw barrier_object u now es x) so o.saw in
+      let saw : Saw barrier_object z now (arrive_entries b v.number) x =
+      subst (λ es. Saw barrier_object z now es x) so o.saw in
       let seen : x.seen ≡ o.before ++ arrive_entries b v.number =
       subst (λ es. x.seen ≡ o.before ++ es) so o.seen in
-      let opening : x.opening ≡ u.opening = o.saw.same.opening in
+      let opening : x.opening ≡ z.opening = o.saw.same.opening in
       record {
         called = called-weak barrier_object v x (arrive_entries b v.number) _
-            (called-then barrier_object v u x now [] [] (arrive_entries b v.number)
-            (called-by barrier_object v u _ [] next.saw) saw);
-        at_load = u.seen;
-        since = saw-prefix barrier_object v u _ _ next.saw;
-        on = saw-prefix barrier_object u x _ _ saw;
-        below = let same = next.next in
-            let moved : (object_after x.opening.size u.seen).waiters.next ≡ n =
-            ap (λ (z : Opening). (object_after z.size u.seen).waiters.next) opening ∙ same in omega arith;
+            (called-then barrier_object v z x now [] [] (arrive_entries b v.number) h.called saw);
+        at_load = z.seen;
+        since = old;
+        on = saw-prefix barrier_object z x _ _ saw;
+        below = let same = h.next in
+            let moved : (object_after x.opening.size z.seen).waiters.next ≡ n =
+            ap (λ (y : Opening). (object_after y.size z.seen).waiters.next) opening ∙ same in omega arith;
         before = o.before;
-        found = remaining-was v u x x now _ o.before (remaining_in m)
-            (saw-prefix barrier_object v u _ _ next.saw) saw seen o.remaining (prefix-same x.seen) refl;
+        found = remaining-was v z x x now _ o.before (remaining_in m) old saw seen o.remaining
+            (prefix-same x.seen) refl;
         ends = seen;
         parties = o.parties;
-        doing = ap (λ (f : Facts). f.doing) after ∙ ap (λ z. if z then doing.Idle else doing.Door) is;
-        held = ap (λ (f : Facts). f.has.held) after ∙ ap (λ (f : Facts). f.has.held - 1) was;
+        doing = ap (λ (f : Facts). f.doing) after ∙ ap (λ y. if y then doing.Idle else doing.Door) is;
+        held = ap (λ (f : Facts). f.has.held) after ∙ ap (λ y. y.held - 1) h.has;
         payload = ap (λ (f : Facts). f.has.payload) after;
         further = ap (λ (f : Facts). f.has.further) after
-            ∙ (λ i. if is i then parties_in m - 1 else (was i).has.further);
-        waits = ap (λ (f : Facts). f.waits) after ∙ ap (λ (f : Facts). f.waits) was;
-        passed = ap (λ (f : Facts). f.passed) after ∙ ap (λ (f : Facts). f.passed) was;
+            ∙ (λ i. if is i then parties_in m - 1 else (h.has i).further);
+        waits = ap (λ (f : Facts). f.waits) after ∙ h.waits;
+        passed = ap (λ (f : Facts). f.passed) after ∙ h.passed;
+        heads = subst (IsPrefix v.facts.heads) (sym (ap (λ (f : Facts). f.heads) after)) h.heads;
       }
 
   pub owes-others : (m : ℕ) (v x : View BarrierEntry T) → Came true m v x → OwesMore (parties_in m - 1) x.facts
@@ -151,9 +207,9 @@ module _ {T : Type 0} where
   }
 
   -- the last one resumed the others
-  pub last-called : (m : ℕ) (ks over : List ℕ) (v x w : View BarrierEntry T) → is_last m ≡ true → Came true m v x
-      → Ran ks over x w → Has v.number v.own → IsLegal w.opening.size w.seen → CameLast ks v w
-  last-called m ks over v x w is c r has legal = record {
+  pub last-called : (m : ℕ) (ks : List ℕ) (v x w : View BarrierEntry T) → is_last m ≡ true → Came true m v x
+      → Ran ks x w → Has v.number v.own → IsLegal w.opening.size w.seen → CameLast ks v w
+  last-called m ks v x w is c r has legal = record {
     called = call-rule_ending barrier_object v w (entry.ArriveLast v.number ∷ []) (delivers ks) []
         (called-and barrier_object v x w _ [] (delivers ks) [] c.called r.called) (λ n. refl, tt) (delivers-name ks) has
         legal;
@@ -179,9 +235,9 @@ module _ {T : Type 0} where
   came-last m v x w is c r has legal =
       let ran = r.2 in (
         (
-          inl (r.0, last-called m r.0 r.1 v x w is c ran has legal),
+          inl (r.0, last-called m r.0 v x w is c ran has legal),
           record {
-            ready = record { idle = r.3.idle; further = r.3.further };
+            ready = record { idle = r.4.idle; further = r.4.further };
             held_is = ran.held ∙ c.held;
             waits_are = ran.waits ∙ c.waits;
           },
@@ -193,14 +249,13 @@ module _ {T : Type 0} where
       → RanAll x (Some owing) w → Has v.number v.own → IsLegal w.opening.size w.seen
       → Arrives v (LastOwing owing) w × IsBelow v w
   came-owing m owing v x w is c r has legal =
-      let ran = r.2 in (
+      let ran = r.1 in (
         (
           r.0,
-          r.1,
-          last-called m r.0 r.1 v x w is c ran has legal,
-          r.4,
-          ran.passed ∙ ap (λ l. l ++ r.1) c.passed,
+          last-called m r.0 v x w is c ran has legal,
           r.3,
+          handed-since (owing_under owing) [] v x w c.called.same c.heads
+              (c.passed ∙ sym (append-nil v.facts.passed)) r.2,
           ran.held ∙ c.held,
           ran.waits ∙ c.waits,
         ),
@@ -300,7 +355,7 @@ module _ {T : Type 0} where
   -- at which cell it ended
   pub ends-last : (m : ℕ) (v x w : View BarrierEntry T) → is_last m ≡ true → Came true m v x → RanAll x None w
       → Has v.number v.own → IsLegal w.opening.size w.seen → EndsAtCell v Last w
-  ends-last m v x w is c r has legal = inl (r.0, last-called m r.0 r.1 v x w is c r.2 has legal)
+  ends-last m v x w is c r has legal = inl (r.0, last-called m r.0 v x w is c r.2 has legal)
 
   pub ends-early : (m : ℕ) (answer : Arrived) (v x w : View BarrierEntry T) → 1 < remaining_in m → Came false m v x
       → WaitsForOthers x answer w → Has v.number v.own → IsLegal w.opening.size w.seen → EndsAtCell v answer w

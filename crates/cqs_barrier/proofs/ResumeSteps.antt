@@ -1,5 +1,5 @@
 -- Resumptions of a barrier, one after the other: each ended at a cell, or was handed back.
-use Rattle.std.proofs.Common.{◌≡◌, ℕ, ◌+◌, ◌-◌, ◌≤◌, Bool, true, false, List, [], ◌∷◌, ◌++◌, length, Option, Some, None, sym, refl, ap, ◌∙◌, subst, append_assoc, arith, inl, inr, length-append}
+use Rattle.std.proofs.Common.{◌≡◌, ℕ, ◌+◌, ◌-◌, Bool, true, false, List, [], ◌∷◌, ◌++◌, length, Option, Some, None, sym, refl, ap, ◌∙◌, subst, append_assoc, arith, ⊎_elim, inl, inr, length-append}
 use Rattle.std.proofs.lemmas.List.{append-nil}
 use Rattle.cqs_core.specs.declared.cells.CoreState.{CoreState}
 use Rattle.cqs_core.specs.declared.cells.CoreState.TheVariants as state
@@ -11,17 +11,26 @@ use Rattle.cqs_barrier_object.specs.declared.entries.BarrierEntry.TheVariants as
 use Rattle.cqs_barrier_object.specs.BarrierEntries.{IsLegal}
 use Rattle.cqs_barrier_object.specs.BarrierSteps.{step_entries}
 use Rattle.cqs_rule.specs.declared.queue.tokens.Under.{Under}
+use Rattle.cqs_rule.proofs.Claiming.{wants-since}
+use Rattle.cqs_rule.specs.Claims.{WantsSlot}
+use Rattle.cqs_rule.specs.Counting.{heads_after}
 use Rattle.cqs_rule.specs.Owed.{HasUnder, owes_at}
 use Rattle.cqs_rule_laws.specs.declared.view.Facts.{Facts}
 use Rattle.cqs_rule_laws.specs.declared.view.View.{View}
+use Rattle.cqs_rule_laws.specs.Ample.{AreEnough}
 use Rattle.cqs_rule_laws.specs.Called.{Called}
 use Rattle.cqs_rule_laws.specs.Counts.{Drew}
+use Rattle.cqs_rule_laws.specs.Lists.{IsPrefix}
+use Rattle.cqs_rule_laws.specs.Views.{IsSame}
 use Rattle.cqs_rule_laws.proofs.Calls.{called-none, called-by, called-and}
+use Rattle.cqs_rule_laws.proofs.Lists.{prefix-then}
 use Rattle.cqs_rule_laws.proofs.Rules.{called-weak}
+use Rattle.cqs_resume.specs.declared.resumed.Resumed.{Resumed}
 use Rattle.cqs_resume.specs.declared.resumed.Resumed.TheVariants as resumed
-use Rattle.cqs_resume.specs.Resumes.{Ended, Resumes}
-use Rattle.cqs_resume.specs.Rounds.{numbers}
-use Rattle.cqs_resume.proofs.Ends.{IsQuiet, ended-at, handed-back, drawn-few}
+use Rattle.cqs_resume.specs.Counting.{settles_at}
+use Rattle.cqs_resume.specs.Resumes.{Ended, GoesOn, Held, Resumes}
+use Rattle.cqs_resume.specs.Rounds.{all_heads, numbers}
+use Rattle.cqs_resume.proofs.Ends.{IsQuiet, ended-at, handed-back, held-on, drawn-few}
 use Rattle.cqs_barrier.specs.Barrier.{barrier_object}
 use Rattle.cqs_barrier.specs.Calls.{waiting_in}
 use Rattle.cqs_barrier.specs.Causes.{primitive_of, CellWas}
@@ -29,11 +38,17 @@ use Rattle.cqs_barrier.specs.Endings.{Ending, served_at, left_at, refused_at, nu
 use Rattle.cqs_barrier.proofs.Endings.{ended-so, owing-none, owing-one, served-none, served-then}
 use Rattle.cqs_rule_laws.specs.Facts.{is_owing}
 use Rattle.cqs_barrier.proofs.AloneOrder.{KnowsAlone, none-served, one-served}
-use Rattle.cqs_barrier.specs.Resuming.{most_passed_over, OwesMore, Ran, RanNext, RanAll}
+use Rattle.cqs_barrier.specs.Resuming.{most_passed_over, HasPassedOver, IsHandedBack, OwesMore, Ran, RanNext, RanAll}
+use Rattle.cqs_barrier.proofs.Grown.{handed_back}
 
 -- a resumption that goes on shows no entry but that of its last step
 quiet : IsQuiet barrier_object
 quiet = record { drawing = λ p k payload. refl; passing = λ p k payload. refl }
+
+-- whether it counted a cell or not, it has the heads that it had found before
+heads-kept : (b : Bool) (counted heads more : List (ℕ × ℕ)) → IsPrefix heads (heads_after b counted (heads ++ more))
+heads-kept true counted heads more = (more ++ counted, append_assoc heads more counted)
+heads-kept false counted heads more = (more, refl)
 
 pub delivers-append : (js ks : List ℕ) → delivers js ++ delivers ks ≡ delivers (js ++ ks)
 delivers-append [] ks = refl
@@ -71,7 +86,8 @@ module _ {T : Type 0} where
           in_order = order called a.idle;
           held = ap (λ h. h.held) a.has;
           waits = a.waits;
-          passed = a.passed;
+          heads = subst (IsPrefix v.facts.heads) (sym (ap (λ (f : Facts). f.heads) e.facts_are))
+              (heads-kept (settles_at s) e.counted v.facts.heads (all_heads (e.over ++ e.last ∷ [])));
           served = record {
             ends = end ∷ [];
             serves = served;
@@ -83,6 +99,7 @@ module _ {T : Type 0} where
           };
           many = omega (arith, kept, over, owed);
         },
+        a.passed,
         record {
           idle = a.idle;
           further = ap (λ h. h.further) a.has ∙ further;
@@ -92,7 +109,7 @@ module _ {T : Type 0} where
 
   module _ (ticket : Option ℕ) (left : ℕ) (v w : View BarrierEntry T) (further : v.facts.has.further ≡ left)
       (payload : v.facts.has.payload ≡ 0) (owing : is_owing v.facts.doing ≡ true) where
-    pub ran-served : (k : ℕ) → IsLegal w.opening.size w.seen → KnowsAlone v → KnowsAlone w
+    ran-served : (k : ℕ) → IsLegal w.opening.size w.seen → KnowsAlone v → KnowsAlone w
         → Resumes barrier_object primitive_of most_passed_over ticket 0 v (resumed.Served k) w → RanNext left v None w
     ran-served k legal knows knows' e =
         ended serves state.Waiter ticket k left (k ∷ []) (served_at k) v w e refl refl refl refl refl owing further
@@ -103,7 +120,7 @@ module _ {T : Type 0} where
         → waiting_in v ≡ waiting_in w
     none-reached called idle alone = none-served v w called alone
 
-    pub ran-left : (k : ℕ)
+    ran-left : (k : ℕ)
         → Resumes barrier_object primitive_of most_passed_over ticket 0 v (resumed.Left k) w → RanNext left v None w
     ran-left k (inl e) = ended leaves state.Empty ticket k left [] (left_at k) v w e refl refl refl refl (inl refl)
         owing further payload
@@ -112,13 +129,13 @@ module _ {T : Type 0} where
         (inr refl) owing further
         payload none-reached
 
-    pub ran-refused : (k : ℕ)
+    ran-refused : (k : ℕ)
         → Resumes barrier_object primitive_of most_passed_over ticket 0 v (resumed.Refused k) w → RanNext left v None w
     ran-refused k e = ended ends_refused state.Refused ticket k left [] (refused_at k) v w e refl refl refl refl refl
         owing further payload
         none-reached
 
-    pub ran-under : (under : Under)
+    ran-under : (under : Under)
         → Resumes barrier_object primitive_of most_passed_over ticket 0 v (resumed.Under under) w
         → RanNext left v (Some under) w
     ran-under under e =
@@ -126,31 +143,89 @@ module _ {T : Type 0} where
         let kept : w.facts.has.further ≡ v.facts.has.further = ap (λ h. h.further) h.has in
         let owed = owing-one v.facts owing in
         let still = owing-one w.facts (ap (λ (f : Facts). is_owing f.doing) e.facts_are) in (
-          numbers e.over,
           record {
             called = h.called;
             in_order = none-served v w h.called;
             held = ap (λ h. h.held) h.has;
             waits = h.waits;
-            passed = h.passed;
+            heads = (all_heads e.over, ap (λ (f : Facts). f.heads) e.facts_are);
             served = served-none v w;
             many = omega (arith, kept, owed, still);
           },
-          (let few = drawn-few e.over in let all = e.all in omega arith),
+          inl (
+            e.ticket_is,
+            record {
+              over = numbers e.over;
+              passed = h.passed;
+              many_are = let few = drawn-few e.over in let all = e.all in omega arith;
+            },
+          ),
           e.has,
           ap (λ h. h.further) h.has ∙ further,
           e.payload_is,
         )
 
+    -- there was no slot for the segment of its number
+    ran-held : (r : Resumed) → Held barrier_object primitive_of most_passed_over 0 v r w
+        → RanNext left v (handed_back r) w
+    ran-held r h =
+        let o = held-on barrier_object primitive_of quiet most_passed_over 0 r v w h in
+        let kept : w.facts.has.further ≡ v.facts.has.further = ap (λ z. z.further) o.has in
+        let owed = owing-one v.facts owing in
+        let still = owing-one w.facts (owing-under h.under w h.has) in
+        subst (λ z. RanNext left v (handed_back z) w) (sym h.is) (
+          record {
+            called = o.called;
+            in_order = none-served v w o.called;
+            held = ap (λ z. z.held) o.has;
+            waits = o.waits;
+            heads = (h.before ++ h.heads, h.heads_are);
+            served = served-none v w;
+            many = omega (arith, kept, owed, still);
+          },
+          inr o.wants,
+          h.has,
+          kept ∙ further,
+          h.payload_is,
+        )
+
+    ran-so : (r : Resumed) → IsLegal w.opening.size w.seen → KnowsAlone v → KnowsAlone w
+        → Resumes barrier_object primitive_of most_passed_over ticket 0 v r w → RanNext left v (handed_back r) w
+    ran-so (resumed.Served k) legal knows knows' e = ran-served k legal knows knows' e
+    ran-so (resumed.Left k) legal knows knows' e = ran-left k e
+    ran-so (resumed.Refused k) legal knows knows' e = ran-refused k e
+    ran-so (resumed.Under under) legal knows knows' e = ran-under under e
+
+    -- one that went on ended, or was handed back
+    pub ran-on : (r : Resumed) → IsLegal w.opening.size w.seen → KnowsAlone v → KnowsAlone w
+        → GoesOn barrier_object primitive_of most_passed_over ticket 0 v r w → RanNext left v (handed_back r) w
+    ran-on r legal knows knows' e = ⊎_elim (ran-so r legal knows knows') (ran-held r) e
+
+  -- one that was handed back is so since an earlier moment, behind these numbers that were passed over
+  pub handed-since : (under : Under) (over : List ℕ) (v u w : View BarrierEntry T) → IsSame v u
+      → IsPrefix v.facts.heads u.facts.heads → HasPassedOver over v u → IsHandedBack under u w → IsHandedBack under v w
+  handed-since under over v u w same heads passed (inl (none, p)) = inl (
+    none,
+    record {
+      over = over ++ p.over;
+      passed = p.passed ∙ (ap (λ l. l ++ p.over) passed ∙ append_assoc v.facts.passed over p.over);
+      many_are = let longer = length-append over p.over in let many = p.many_are in omega arith;
+    },
+  )
+  handed-since under over v u w same heads passed (inr x) = inr (wants-since under v u w same heads x)
+
+  pub passes-then : (over more : List ℕ) (v u w : View BarrierEntry T) → HasPassedOver over v u
+      → HasPassedOver more u w → HasPassedOver (over ++ more) v w
+  passes-then over more v u w a b = b ∙ (ap (λ l. l ++ more) a ∙ append_assoc v.facts.passed over more)
+
   -- one run after another
-  pub ran-then : (js ks over more : List ℕ) (v u w : View BarrierEntry T) → Ran js over v u → Ran ks more u w
-      → Ran (js ++ ks) (over ++ more) v w
-  ran-then js ks over more v u w a b = record {
+  pub ran-then : (js ks : List ℕ) (v u w : View BarrierEntry T) → Ran js v u → Ran ks u w → Ran (js ++ ks) v w
+  ran-then js ks v u w a b = record {
     called = subst (λ es. Called barrier_object v es [] w) (delivers-append js ks)
         (called-and barrier_object v u w (delivers js) [] (delivers ks) [] a.called b.called);
     held = b.held ∙ a.held;
     waits = b.waits ∙ a.waits;
-    passed = b.passed ∙ (ap (λ l. l ++ more) a.passed ∙ append_assoc v.facts.passed over more);
+    heads = prefix-then v.facts.heads u.facts.heads w.facts.heads a.heads b.heads;
     in_order = λ alone. a.in_order alone
         ∙ (ap (λ l. js ++ l) (b.in_order (a.called.same.alone ∙ alone)) ∙ sym (append_assoc js ks (waiting_in w)));
     served = served-then js ks v u w (a.called.more, a.called.seen) (b.called.more, b.called.seen)
@@ -169,12 +244,12 @@ module _ {T : Type 0} where
       ap (λ (f : Facts). f.has.further) d.facts_are ∙ (ap (λ n. n - 1) owes.further ∙ omega arith)
 
   pub began : (k left : ℕ) (v u : View BarrierEntry T) → OwesMore (left + 1) v.facts → Drew barrier_object begins v k u
-      → Ran [] [] v u
+      → Ran [] v u
   began k left v u owes d = record {
     called = called-by barrier_object v u _ [] d;
     held = ap (λ (f : Facts). f.has.held) d.facts_are;
     waits = ap (λ (f : Facts). f.waits) d.facts_are;
-    passed = ap (λ (f : Facts). f.passed) d.facts_are ∙ sym (append-nil v.facts.passed);
+    heads = ([], ap (λ (f : Facts). f.heads) d.facts_are ∙ sym (append-nil v.facts.heads));
     in_order = none-served v u (called-by barrier_object v u _ [] d);
     served = served-none v u;
     many =
@@ -185,37 +260,54 @@ module _ {T : Type 0} where
         omega (arith, further, more, idle, owed);
   }
 
-  pub next-after : (left : ℕ) (answer : Option Under) (v u w : View BarrierEntry T) → Ran [] [] v u
-      → RanNext left u answer w → RanNext left v answer w
-  next-after left None v u w a n = (n.0, n.1, ran-then [] n.0 [] n.1 v u w a n.2, n.3)
-  next-after left (Some under) v u w a n = (n.0, ran-then [] [] [] n.0 v u w a n.1, n.2, n.3, n.4, n.5)
+  pub began-there : (k : ℕ) (v u : View BarrierEntry T) → Drew barrier_object begins v k u → HasPassedOver [] v u
+  began-there k v u d = ap (λ (f : Facts). f.passed) d.facts_are ∙ sym (append-nil v.facts.passed)
+
+  pub next-after : (left : ℕ) (answer : Option Under) (v u w : View BarrierEntry T) → Ran [] v u
+      → HasPassedOver [] v u → RanNext left u answer w → RanNext left v answer w
+  next-after left None v u w a passed n =
+      (n.0, n.1, ran-then [] n.0 v u w a n.2, passes-then [] n.1 v u w passed n.3, n.4)
+  next-after left (Some under) v u w a passed n = (
+    ran-then [] [] v u w a n.0,
+    handed-since under [] v u w a.called.same a.heads passed n.1,
+    n.2,
+    n.3,
+    n.4,
+  )
 
 -- nothing was resumed yet
-pub ran-none : {T : Type 0} (v : View BarrierEntry T) → Ran [] [] v v
+pub ran-none : {T : Type 0} (v : View BarrierEntry T) → Ran [] v v
 ran-none v = record {
   called = called-none barrier_object v;
   held = refl;
   waits = refl;
-  passed = sym (append-nil v.facts.passed);
+  heads = ([], sym (append-nil v.facts.heads));
   in_order = λ alone. refl;
   served = served-none v v;
   many = let none : length (served-none v v).ends ≡ 0 = refl in omega (arith, none);
 }
 
+module _ {T : Type 0} where
+  -- these waits were served by resumptions that ended, by way of these numbers that were passed over
+  abbrev pub RanSo : View BarrierEntry T → View BarrierEntry T → Type 0
+  RanSo v u = (ks : List ℕ) × (over : List ℕ) × Ran ks v u × HasPassedOver over v u
+
+  pub ran-nothing : (v : View BarrierEntry T) → RanSo v v
+  ran-nothing v = ([], [], ran-none v, sym (append-nil v.facts.passed))
+
 module _ {T : Type 0} (left : ℕ) where
   -- one more of the resumptions was handed back, or ended
-  pub all-handed : (under : Under) (v u w : View BarrierEntry T)
-      → (ks : List ℕ) × (over : List ℕ) × Ran ks over v u → RanNext left u (Some under) w
+  pub all-handed : (under : Under) (v u w : View BarrierEntry T) → RanSo v u → RanNext left u (Some under) w
       → RanAll v (Some (record { under = under; left = left })) w
   all-handed under v u w a n = (
     a.0 ++ [],
-    a.1 ++ n.0,
-    ran-then a.0 [] a.1 n.0 v u w a.2 n.1,
-    (let longer = length-append a.1 n.0 in let many = n.2 in omega arith),
-    record { owes = n.3; further = n.4; payload = n.5 },
+    ran-then a.0 [] v u w a.2 n.0,
+    handed-since under a.1 v u w a.2.called.same a.2.heads a.3 n.1,
+    record { owes = n.2; further = n.3; payload = n.4 },
   )
 
-  pub all-on : (v u w : View BarrierEntry T)
-      → (ks : List ℕ) × (over : List ℕ) × Ran ks over v u → RanNext left u None w
-      → ((ks : List ℕ) × (over : List ℕ) × Ran ks over v w) × OwesMore left w.facts
-  all-on v u w a n = ((a.0 ++ n.0, a.1 ++ n.1, ran-then a.0 n.0 a.1 n.1 v u w a.2 n.2), n.3)
+  pub all-on : (v u w : View BarrierEntry T) → RanSo v u → RanNext left u None w → RanSo v w × OwesMore left w.facts
+  all-on v u w a n = (
+    (a.0 ++ n.0, a.1 ++ n.1, ran-then a.0 n.0 v u w a.2 n.2, passes-then a.1 n.1 v u w a.3 n.3),
+    n.4,
+  )

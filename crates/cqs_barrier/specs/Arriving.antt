@@ -10,6 +10,7 @@ use Rattle.cqs_rule_laws.specs.declared.view.View.{View}
 use Rattle.cqs_rule_laws.specs.Facts.{facts_counted}
 use Rattle.cqs_rule_laws.specs.Lists.{IsPrefix}
 use Rattle.cqs_rule_laws.specs.Saw.{Saw}
+use Rattle.cqs_rule.specs.Claims.{WasCrowded}
 use Rattle.cqs_rule.specs.Waits.{place_of, HasWait}
 use Rattle.cqs_suspend.specs.Suspends.{EndsBy}
 use Rattle.cqs_barrier.specs.declared.answers.Arrived.{Arrived}
@@ -21,7 +22,7 @@ use Rattle.cqs_barrier.specs.Calls.{CallRule, Rests, plain_after}
 use Rattle.cqs_barrier.specs.Causes.{primitive_of, CellWas}
 use Rattle.cqs_barrier.specs.Endings.{Served, owed_by}
 use Rattle.cqs_barrier.specs.Leaving.{RemainingWas}
-use Rattle.cqs_barrier.specs.Resuming.{HasOwing, most_passed_over}
+use Rattle.cqs_barrier.specs.Resuming.{HasOwing, IsHandedBack, owing_under, HasPassedOver}
 use Rattle.cqs_barrier.specs.Waits.{wait_in}
 
 module _ {T : Type 0} where
@@ -38,12 +39,23 @@ module _ {T : Type 0} where
     pub worn : v.limit ≤ (plain_after w).waiters.next
     pub rests : Rests v v.facts.has.held v.facts.waits w
 
-  -- one that wasn't had found fewer
+  -- one that wasn't refused as worn had found fewer
   pub record IsBelow (v w : View BarrierEntry T) : Type 0 where
     pub before : List BarrierEntry
     pub since : IsPrefix v.seen before
     pub seen : IsPrefix before w.seen
     pub below : (object_after w.opening.size before).waiters.next < v.limit
+
+  -- An arrival was refused as crowded: it loaded the suspend counter below the limit, and then
+  -- could have no two spare slots. Nothing was appended, and the pass is at what it was, but for
+  -- its spare slots.
+  pub record IsCrowded (v w : View BarrierEntry T) : Type 0 where
+    pub called : CallRule v [] [] w
+    pub count : ℕ
+    pub next : (plain_after w).waiters.next ≡ count
+    pub below : count < v.limit
+    pub crowded : WasCrowded 2 (facts_counted v.limit count v.facts) v w
+    pub rests : Rests v v.facts.has.held v.facts.waits w
 
   -- The remaining number was found as 1, and the party is the last.
   pub record WasLast (v w : View BarrierEntry T) : Type 0 where
@@ -78,8 +90,8 @@ module _ {T : Type 0} where
       ⊎ ((k : ℕ) × CameEarly k (entry.Deliver k ∷ []) v w))
       × Rests v (v.facts.has.held - 1) v.facts.waits w
   Arrives v (LastOwing owing) w =
-      (ks : List ℕ) × (over : List ℕ) × CameLast ks v w × HasOwing w.facts owing
-      × (w.facts.passed ≡ v.facts.passed ++ over) × (most_passed_over ≤ length over)
+      (ks : List ℕ) × CameLast ks v w × HasOwing w.facts owing
+      × IsHandedBack (owing_under owing) v w
       × (w.facts.has.held ≡ v.facts.has.held - 1) × (w.facts.waits ≡ v.facts.waits)
   Arrives v (Later wait) w =
       CameEarly (place_of (wait_in wait)).index [] v w
@@ -106,19 +118,18 @@ module _ {T : Type 0} where
       × HasWait w (wait_in wait)
 
   -- A finish made no step but those of the resumptions that were owed, which served these waits,
-  -- each with its cell, and passed over these numbers. All that are owed no more have ended.
-  pub record Finished (ks over : List ℕ) (v w : View BarrierEntry T) : Type 0 where
+  -- each with its cell. All that are owed no more have ended.
+  pub record Finished (ks : List ℕ) (v w : View BarrierEntry T) : Type 0 where
     pub called : CallRule v [] (delivers ks) w
     pub served : Served ks v w
     pub many : length served.ends + owed_by w.facts ≡ owed_by v.facts
     pub held : w.facts.has.held ≡ v.facts.has.held
     pub waits : w.facts.waits ≡ v.facts.waits
-    pub passed : w.facts.passed ≡ v.facts.passed ++ over
 
-  -- all that were owed ended, or one was handed back
+  -- all that were owed ended, by way of these numbers that were passed over; or one was handed back
   abbrev pub Finishes : View BarrierEntry T → Result (Unit {0}) Owing → View BarrierEntry T → Type 0
   Finishes v (Ok done) w =
-      (ks : List ℕ) × (over : List ℕ) × Finished ks over v w × IsReady w.facts
+      (ks : List ℕ) × (over : List ℕ) × Finished ks v w × HasPassedOver over v w × IsReady w.facts
   Finishes v (Err owing) w =
-      (ks : List ℕ) × (over : List ℕ) × Finished ks over v w × (most_passed_over ≤ length over)
+      (ks : List ℕ) × Finished ks v w × IsHandedBack (owing_under owing) v w
       × HasOwing w.facts owing

@@ -10,6 +10,7 @@ use Rattle.cqs_barrier_object.specs.BarrierShown.{Shape, IsBarrier}
 use Rattle.cqs_barrier_object.specs.BarrierSteps.{step_entries}
 use Rattle.cqs_rule_laws.specs.declared.view.Has.{Has}
 use Rattle.cqs_rule_laws.specs.declared.config.CancelMode.TheVariants.{Smart}
+use Rattle.cqs_rule_laws.specs.Configured.{largest_limit}
 use Rattle.cqs_rule_laws.specs.Events.{Event}
 use Rattle.cqs_rule_laws.specs.Hidden.{Hidden, Gains}
 use Rattle.cqs_rule_laws.specs.Manner.{Manner, asks, owed_further}
@@ -64,6 +65,7 @@ barrier_primitive parties = record {
   shows = ShowsBarrier parties;
   manner = barrier_manner;
   words = word_of parties parties ∷ [];
+  most_limit = largest_limit;
   values = 0;
   held = parties;
   opens = λ has slot. ⊥;

@@ -62,8 +62,8 @@ pub struct Owing {
 }
 
 impl Owing {
-    /// The last number that was drawn for the one that was handed back. A loop that goes on with
-    /// what is owed until it ends can be measured by it.
+    /// The last number that was drawn for the one that was handed back. On an ample table a loop
+    /// that goes on with what is owed until it ends can be measured by it.
     pub fn reached(&self) -> u64
         ensures { result ≡ owing_reached self.now }
     {
@@ -77,7 +77,8 @@ pub enum Arrived {
     /// The party was the last, or came when the last had arrived: it goes through.
     Last,
     /// The party was the last, and goes through. A resumption that it owes to the others was handed
-    /// back after 64 numbers that were passed over; `finish` goes on.
+    /// back: after 64 numbers that were passed over, or as there was no slot for the segment of its
+    /// number; `finish` goes on.
     LastOwing(Owing),
     /// Others are still to arrive: the party waits.
     Later(PartyWait),

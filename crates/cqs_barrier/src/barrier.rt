@@ -2,7 +2,7 @@
 
 ghost use Rattle.std.specs.Prelude.{◌≡◌, ◌⊎◌, ◌<◌, [], ◌∷◌, true, false, IfOk, IsErrOf};
 ghost use mathlib.Core.Logic.{◌↔◌};
-ghost use Rattle.cqs_rule_laws.specs.Configured.{is_config};
+ghost use Rattle.cqs_rule_laws.specs.Configured.{is_config, is_small_config};
 ghost use Rattle.cqs_rule.specs.Passes.{ample_of, pass_view, passes_of, limit_of};
 
 use crate::client::BarrierClient;
@@ -19,15 +19,15 @@ const MOST_PARTIES: u32 = 32;
 #[derive(Drop)]
 pub struct Barrier<T: Carries = ()> {
     pub(crate) queue: Queue<BarrierClient<T>>,
-    // All segments are made as the table opens, so no call needs a spare slot.
-    pub ghost ample_is: { ample_of queue ≡ true },
 }
 
 impl Barrier {
     ghost use Rattle.cqs_barrier.specs.Calls.{Rests, IsMine, parties_in};
 
     /// A barrier at which none has arrived, and its first pass, which has number 0, has seen
-    /// nothing, and holds all parties. There are from 1 to 32 of them.
+    /// nothing, and holds all parties. There are from 1 to 32 of them. `config.slots` says how many
+    /// can wait at once: some `waiters / 32 + 2 * passes + 2` slots are for so many waiters, and
+    /// they are used again.
     pub fn new(
         alloc: Global,
         parties: u32,
@@ -45,23 +45,20 @@ impl Barrier {
         ensures alone { IfOk result (λ made. (pass_view made.1).alone ≡ true) }
         ensures all { IfOk result
             (λ made. Rests (pass_view made.1) parties [] (pass_view made.1)) }
+        ensures slots { IfOk result (λ made. (pass_view made.1).slots ≡ config.slots) }
     {
         Barrier::make(alloc, parties, config)
     }
-}
 
-impl Barrier<Unparked> {
-    ghost use Rattle.cqs_barrier.specs.Calls.{Rests, IsMine, parties_in};
-
-    /// The same for callers who never park: each looks at its wait when it likes. Such a barrier
-    /// wakes nobody, and so it may stand in a static library.
-    pub fn unparked(
+    /// The same on a table with slots for all segments that can ever be wanted, however few
+    /// `config` asks for: no call of it is crowded, and its memory grows with the limit.
+    pub fn ample(
         alloc: Global,
         parties: u32,
         config: Config,
-    ) -> Result<(Barrier<Unparked>, BarrierPass<Unparked>), MakeError>
+    ) -> Result<(Barrier, BarrierPass), MakeError>
         ensures bad_config { IsErrOf result MakeError.BadConfig
-            ↔ ((parties ≡ 0) ⊎ (32 < parties) ⊎ (is_config config ≡ false)) }
+            ↔ ((parties ≡ 0) ⊎ (32 < parties) ⊎ (is_small_config config ≡ false)) }
         ensures belongs { IfOk result (λ made. IsMine made.0 made.1) }
         ensures parties { IfOk result (λ made. parties_in made.0 ≡ parties) }
         ensures passes { IfOk result (λ made. (passes_of made.0.queue ≡ config.passes)
@@ -72,8 +69,37 @@ impl Barrier<Unparked> {
         ensures alone { IfOk result (λ made. (pass_view made.1).alone ≡ true) }
         ensures all { IfOk result
             (λ made. Rests (pass_view made.1) parties [] (pass_view made.1)) }
+        ensures ample { IfOk result (λ made. ample_of made.0.queue ≡ true) }
     {
-        Barrier::make(alloc, parties, config)
+        Barrier::make_ample(alloc, parties, config)
+    }
+}
+
+impl Barrier<Unparked> {
+    ghost use Rattle.cqs_barrier.specs.Calls.{Rests, IsMine, parties_in};
+
+    /// The same for callers who never park: each looks at its wait when it likes. Such a barrier
+    /// wakes nobody, and so it may stand in a static library. Its table is ample.
+    pub fn unparked(
+        alloc: Global,
+        parties: u32,
+        config: Config,
+    ) -> Result<(Barrier<Unparked>, BarrierPass<Unparked>), MakeError>
+        ensures bad_config { IsErrOf result MakeError.BadConfig
+            ↔ ((parties ≡ 0) ⊎ (32 < parties) ⊎ (is_small_config config ≡ false)) }
+        ensures belongs { IfOk result (λ made. IsMine made.0 made.1) }
+        ensures parties { IfOk result (λ made. parties_in made.0 ≡ parties) }
+        ensures passes { IfOk result (λ made. (passes_of made.0.queue ≡ config.passes)
+            × (limit_of made.0.queue ≡ config.limit)) }
+        ensures first { IfOk result (λ made. (pass_view made.1).number ≡ 0) }
+        ensures own { IfOk result (λ made. (pass_view made.1).own ≡ 0 ∷ []) }
+        ensures nothing { IfOk result (λ made. (pass_view made.1).seen ≡ []) }
+        ensures alone { IfOk result (λ made. (pass_view made.1).alone ≡ true) }
+        ensures all { IfOk result
+            (λ made. Rests (pass_view made.1) parties [] (pass_view made.1)) }
+        ensures ample { IfOk result (λ made. ample_of made.0.queue ≡ true) }
+    {
+        Barrier::make_ample(alloc, parties, config)
     }
 }
 
@@ -97,6 +123,35 @@ impl<T: Carries + Send> Barrier<T> {
         ensures alone { IfOk result (λ made. (pass_view made.1).alone ≡ true) }
         ensures all { IfOk result
             (λ made. Rests (pass_view made.1) parties [] (pass_view made.1)) }
+        ensures slots { IfOk result (λ made. (pass_view made.1).slots ≡ config.slots) }
+    {
+        if parties == 0 || parties > MOST_PARTIES {
+            return Err(MakeError::BadConfig);
+        }
+        let client = BarrierClient::new(parties);
+        let (queue, pass) = Queue::new(alloc, config, CancelMode::Smart, client)?;
+        Ok((Barrier { queue }, pass))
+    }
+
+    // The same on an ample table.
+    fn make_ample(
+        alloc: Global,
+        parties: u32,
+        config: Config,
+    ) -> Result<(Barrier<T>, BarrierPass<T>), MakeError>
+        ensures bad_config { IsErrOf result MakeError.BadConfig
+            ↔ ((parties ≡ 0) ⊎ (32 < parties) ⊎ (is_small_config config ≡ false)) }
+        ensures belongs { IfOk result (λ made. IsMine made.0 made.1) }
+        ensures parties { IfOk result (λ made. parties_in made.0 ≡ parties) }
+        ensures passes { IfOk result (λ made. (passes_of made.0.queue ≡ config.passes)
+            × (limit_of made.0.queue ≡ config.limit)) }
+        ensures first { IfOk result (λ made. (pass_view made.1).number ≡ 0) }
+        ensures own { IfOk result (λ made. (pass_view made.1).own ≡ 0 ∷ []) }
+        ensures nothing { IfOk result (λ made. (pass_view made.1).seen ≡ []) }
+        ensures alone { IfOk result (λ made. (pass_view made.1).alone ≡ true) }
+        ensures all { IfOk result
+            (λ made. Rests (pass_view made.1) parties [] (pass_view made.1)) }
+        ensures ample { IfOk result (λ made. ample_of made.0.queue ≡ true) }
     {
         if parties == 0 || parties > MOST_PARTIES {
             return Err(MakeError::BadConfig);

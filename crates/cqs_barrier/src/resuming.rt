@@ -1,11 +1,11 @@
 //! The resumptions of the last party, one after the other.
 
-ghost use Rattle.std.specs.Prelude.{◌≡◌, ◌+◌, ◌<◌, IfSome};
+ghost use Rattle.std.specs.Prelude.{◌≡◌, ◌+◌, IfSome};
 ghost use Rattle.cqs_core.specs.declared.doings.Doing.TheVariants as doing;
 ghost use Rattle.cqs_rule.specs.Owed.{HasUnder, under_payload, under_reached};
 ghost use Rattle.cqs_rule.specs.Passes.{pass_view};
 ghost use Rattle.cqs_barrier.specs.Calls.{IsMine};
-ghost use Rattle.cqs_barrier.specs.Resuming.{HasGrown, OwesMore, RanNext, RanAll, owing_reached};
+ghost use Rattle.cqs_barrier.specs.Resuming.{HasGrown, IsFurther, OwesMore, RanNext, RanAll, owing_under};
 
 use crate::answers::Owing;
 use crate::barrier::{Barrier, BarrierPass};
@@ -20,7 +20,7 @@ impl<T: Carries + Send> Barrier<T> {
         ensures belongs { IsMine self.now pass.new }
         ensures ran { RanAll (pass_view pass.old) result (pass_view pass.new) }
         ensures grown { IfSome result
-            (λ owing. (pass_view pass.old).facts.reached < owing_reached owing) }
+            (λ owing. IsFurther (pass_view pass.old).facts.reached (owing_under owing)) }
     {
         let mut left = others;
         while left > 0 {

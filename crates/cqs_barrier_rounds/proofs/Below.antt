@@ -1,9 +1,10 @@
 -- A fact of each element below a number, and of all.
-use Rattle.std.proofs.Common.{◌≡◌, ◌≢◌, ℕ, ◌+◌, ◌<◌, ◌≤◌, List, Some, length, set, slice_get, sym, ap, ◌∙◌, arith}
+use Rattle.std.proofs.Common.{◌≡◌, ◌≢◌, ℕ, ◌+◌, ◌<◌, ◌≤◌, List, [], ◌∷◌, ◌++◌, Some, length, set, slice_get, sym, ap, ◌∙◌, arith}
+use Rattle.std.proofs.lemmas.List.{length_push}
 use Rattle.std.proofs.lemmas.Option.{same_Some}
 use mathlib.Core.Logic.{dite}
 use native.Mathlib.Decide.{ℕ_discrete}
-use Rattle.cqs_core.proofs.Places.{get-set_else, get-below}
+use Rattle.cqs_core.proofs.Places.{get-append_below, get-below, get-push_at, get-set_else}
 use Rattle.cqs_barrier_rounds.specs.Passes.{EachIs}
 
 module _ {P : Type 0} where
@@ -42,3 +43,17 @@ module _ {P : Type 0} where
 
   pub below-each : (fact : P → Type 0) (n : ℕ) (ps : List P) → EachIs fact ps → BelowIs fact n ps
   below-each fact n ps each r x low got = each r x got
+
+  -- of each of none, and of one more
+  pub each-none : (fact : P → Type 0) (ps : List P) → ps ≡ [] → EachIs fact ps
+  each-none fact ps none r x got = let low = get-below ps r x got in absurd (omega (arith, ap length none))
+
+  pub each-push : (fact : P → Type 0) (ps : List P) (p : P) → EachIs fact ps → fact p → EachIs fact (ps ++ p ∷ [])
+  each-push fact ps p each here r x got = dite (ℕ_discrete r (length ps))
+      (λ (e : r ≡ length ps).
+      let one : x ≡ p = same_Some x p (sym got ∙ get-push_at ps p r e) in
+      rw one here)
+      (λ (other : r ≢ length ps).
+      let high = get-below (ps ++ p ∷ []) r x got in
+      let low : r < length ps = omega (arith, length_push ps p) in
+      each r x (sym (get-append_below ps (p ∷ []) r low) ∙ got))

@@ -13,7 +13,7 @@ use Rattle.cqs_barrier.specs.declared.answers.PartyPolled.{PartyPolled}
 use Rattle.cqs_barrier.specs.declared.answers.PartyWait.{PartyWait}
 use Rattle.cqs_barrier.specs.Alone.{IsPlainArrive, IsPlainFinish, IsPlainPoll, IsPlainCancel}
 use Rattle.cqs_barrier.specs.Answers.{IsPolled}
-use Rattle.cqs_barrier.specs.Arriving.{Arrives, EndsAtCell, Finishes, IsBelow, IsWorn}
+use Rattle.cqs_barrier.specs.Arriving.{Arrives, EndsAtCell, Finishes, IsBelow, IsCrowded, IsWorn}
 use Rattle.cqs_rule_laws.specs.CallRule.{IsReady}
 use Rattle.cqs_barrier.specs.Calls.{CallRule}
 use Rattle.cqs_barrier.specs.Entries.{polled_entries}
@@ -64,7 +64,7 @@ ArrivesAt r v (Ok (LastOwing owing)) w =
 ArrivesAt r v (Ok (Later wait)) w =
     (wait_round wait ≡ r) × HasArrived (arrived.Later (wait_of wait)) v w
 ArrivesAt r v (Err (member, Worn)) w = (round_of member ≡ r) × IsWorn v w
-ArrivesAt r v (Err (member, Crowded)) w = ⊥
+ArrivesAt r v (Err (member, Crowded)) w = (round_of member ≡ r) × IsCrowded v w
 ArrivesAt r v (Err (member, Over)) w = ⊥
 
 abbrev pub FinishesAt : ℕ → Party → Result Member MemberOwing → Party → Type 0

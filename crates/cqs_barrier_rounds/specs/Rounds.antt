@@ -1,14 +1,20 @@
 -- The rounds and their passes: a list of barriers, and for each a pass of it.
-use Rattle.std.specs.Prelude.{◌≡◌, ℕ, true, List, [], ◌∷◌, length, Option, Some, None, slice_get, slice_set}
+use Rattle.std.specs.Prelude.{◌≡◌, ℕ, true, List, [], ◌∷◌, length, Option, Some, None, slice_get, slice_set, Bool, false}
 use Rattle.cqs_barrier_object.specs.declared.entries.BarrierEntry.{BarrierEntry}
 use Rattle.cqs_rule_laws.specs.declared.client.ClientWords.{Ghosts}
 use Rattle.cqs_rule_laws.specs.declared.config.Config.{Config}
+use Rattle.cqs_rule_laws.specs.Configured.{is_config, is_small_config}
 use Rattle.cqs_rule.specs.declared.queue.Pass.{Pass}
 use Rattle.cqs_rule_laws.specs.declared.view.View.{View}
-use Rattle.cqs_rule.specs.Passes.{pass_view, passes_of, limit_of}
+use Rattle.cqs_rule.specs.Passes.{ample_of, pass_view, passes_of, limit_of}
 use Rattle.cqs_barrier.specs.Parked.{Barrier, BarrierClient}
 use Rattle.cqs_barrier.specs.Calls.{IsMine, Rests, parties_in}
 use Rattle.cqs_barrier_rounds.specs.declared.rounds.Rounds.{Rounds}
+
+-- which configurations rounds may be made with, whether of ample barriers or not
+abbrev pub is_config_for : Bool → Config → Bool
+is_config_for true c = is_small_config c
+is_config_for false c = is_config c
 
 -- the barriers, round for round
 abbrev pub barriers_of : Rounds → List Barrier
@@ -17,6 +23,10 @@ barriers_of r = r.barriers.items
 -- how many rounds there are
 abbrev pub rounds_in : Rounds → ℕ
 rounds_in r = length r.barriers.items
+
+-- each of them stands on an ample table
+abbrev pub AreAmple : List Barrier → Type 0
+AreAmple barriers = (r : ℕ) (b : Barrier) → slice_get barriers r ≡ Some b → ample_of b.queue ≡ true
 
 module _ {g : Ghosts BarrierClient (Unit {0}) BarrierEntry} where
   -- there is one pass for each round, and it is of that round's barrier

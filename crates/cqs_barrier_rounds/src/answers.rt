@@ -22,7 +22,7 @@ pub enum RoundArrived {
 pub enum RoundError {
     /// As many numbers were drawn in its round as the limit allows.
     Worn,
-    /// No segment was free for a further cell.
+    /// No two slots were free in its round.
     Crowded,
     /// The member is through all rounds.
     Over,

@@ -1,14 +1,14 @@
 //! The arrival of a member in its round, what the last of a round still owes, and the look at a
 //! wait.
 
-ghost use Rattle.std.specs.Prelude.{◌≡◌, ◌<◌, ◌≤◌, Err, IfErr};
+ghost use Rattle.std.specs.Prelude.{◌≡◌, ◌≢◌, ◌<◌, ◌≤◌, Err, IfErr};
 ghost use Rattle.cqs_rule.specs.Waits.{HasWait};
 ghost use Rattle.cqs_rule_laws.specs.CallRule.{IsReady};
-ghost use Rattle.cqs_barrier.specs.Resuming.{HasOwing, owing_reached};
+ghost use Rattle.cqs_barrier.specs.Resuming.{HasNoTicket, HasOwing, owing_reached, owing_under};
 ghost use Rattle.cqs_barrier.specs.Waits.{wait_in};
 ghost use Rattle.cqs_barrier_rounds.specs.Calls.{ArrivesAt, FinishesAt, PollsAt};
 ghost use Rattle.cqs_barrier_rounds.specs.Members.{round_of, owing_of, owing_round, wait_of, wait_round};
-ghost use Rattle.cqs_barrier_rounds.specs.Rounds.{AreMine, IsAt, IsCalled, barriers_of, rounds_in};
+ghost use Rattle.cqs_barrier_rounds.specs.Rounds.{AreAmple, AreMine, IsAt, IsCalled, barriers_of, rounds_in};
 
 use crate::answers::{RoundArrived, RoundError, RoundPolled};
 use crate::members::{Member, MemberOwing, MemberWait};
@@ -17,7 +17,7 @@ use crate::turns::{arrive_at, finish_at, poll_at};
 
 impl Rounds {
     /// A member arrives in its round, by a party that the pass holds of it. One that is through all
-    /// rounds is told so.
+    /// rounds is told so. One that is refused as worn or as crowded is handed back.
     pub fn arrive(
         &self,
         pass: &mut RoundsPass,
@@ -33,6 +33,8 @@ impl Rounds {
         ensures arrived { round_of member < rounds_in self.now → IsCalled
             (λ v w. ArrivesAt (round_of member) v result w) (round_of member)
             pass.old.passes.items pass.new.passes.items }
+        ensures never_crowded { AreAmple (barriers_of self.now)
+            → IfErr result (λ refused. refused.1 ≢ RoundError.Crowded) }
     {
         let Member { round } = member;
         let at = round as usize;
@@ -52,8 +54,10 @@ impl Rounds {
         ensures belongs { AreMine (barriers_of self.now) pass.new.passes.items }
         ensures finished { IsCalled (λ v w. FinishesAt (owing_round owing) v result w)
             (owing_round owing) pass.old.passes.items pass.new.passes.items }
-        ensures grown { IfErr result
+        ensures grown { AreAmple (barriers_of self.now) → IfErr result
             (λ again. owing_reached (owing_of owing) < owing_reached (owing_of again)) }
+        ensures further { IfErr result (λ again. HasNoTicket (owing_under (owing_of again))
+            → owing_reached (owing_of owing) < owing_reached (owing_of again)) }
     {
         let MemberOwing { round, owing } = owing;
         let at = round as usize;

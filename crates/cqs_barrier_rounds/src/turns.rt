@@ -1,12 +1,12 @@
 //! The calls of a member at the barrier of its round.
 
-ghost use Rattle.std.specs.Prelude.{◌<◌, IfErr};
-ghost use Rattle.cqs_rule.specs.Passes.{pass_view};
+ghost use Rattle.std.specs.Prelude.{◌≡◌, ◌≢◌, ◌<◌, true, IfErr};
+ghost use Rattle.cqs_rule.specs.Passes.{ample_of, pass_view};
 ghost use Rattle.cqs_rule.specs.Waits.{HasWait};
 ghost use Rattle.cqs_rule_laws.specs.CallRule.{IsReady};
 ghost use Rattle.cqs_barrier.specs.Calls.{IsMine};
 ghost use Rattle.cqs_barrier.specs.Leaving.{HasLeaving, leaving_at};
-ghost use Rattle.cqs_barrier.specs.Resuming.{HasOwing, owing_reached};
+ghost use Rattle.cqs_barrier.specs.Resuming.{HasNoTicket, HasOwing, owing_reached, owing_under};
 ghost use Rattle.cqs_barrier.specs.Waits.{wait_in};
 ghost use Rattle.cqs_barrier_rounds.specs.Calls.{ArrivesAt, CancelsAt, FinishesAt, LeavesAt, PollsAt};
 ghost use Rattle.cqs_barrier_rounds.specs.Members.{owing_of};
@@ -29,13 +29,15 @@ pub(crate) fn arrive_at(
     requires below { round < 64 }
     ensures belongs { IsMine barrier.now pass.new }
     ensures arrived { ArrivesAt round (pass_view pass.old) result (pass_view pass.new) }
+    ensures never_crowded { ample_of barrier.now.queue ≡ true
+        → IfErr result (λ refused. refused.1 ≢ RoundError.Crowded) }
 {
     match barrier.arrive(pass) {
         Ok(Arrived::Last) => Ok(RoundArrived::Last(Member { round: round + 1 })),
         Ok(Arrived::LastOwing(owing)) => Ok(RoundArrived::LastOwing(MemberOwing { round, owing })),
         Ok(Arrived::Later(wait)) => Ok(RoundArrived::Later(MemberWait { round, wait })),
         Err(AcquireError::Worn) => Err((Member { round }, RoundError::Worn)),
-        Err(AcquireError::Crowded) => unreachable!(),
+        Err(AcquireError::Crowded) => Err((Member { round }, RoundError::Crowded)),
     }
 }
 
@@ -50,7 +52,10 @@ pub(crate) fn finish_at(
     requires below { round < 64 }
     ensures belongs { IsMine barrier.now pass.new }
     ensures finished { FinishesAt round (pass_view pass.old) result (pass_view pass.new) }
-    ensures grown { IfErr result (λ again. owing_reached owing < owing_reached (owing_of again)) }
+    ensures grown { ample_of barrier.now.queue ≡ true
+        → IfErr result (λ again. owing_reached owing < owing_reached (owing_of again)) }
+    ensures further { IfErr result (λ again. HasNoTicket (owing_under (owing_of again))
+        → owing_reached owing < owing_reached (owing_of again)) }
 {
     match barrier.finish(pass, owing) {
         Ok(()) => Ok(Member { round: round + 1 }),

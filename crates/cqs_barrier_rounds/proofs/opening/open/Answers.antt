@@ -1,7 +1,9 @@
-use Rattle.std.proofs.Common.{◌<◌, Ok, ap, length, arith}
+use Rattle.std.proofs.Common.{◌≡◌, ◌<◌, true, Ok, ap, length, arith}
 use Rattle.std.specs.Result.{IsErrOf}
 use Rattle.std.proofs.lemmas.List.{length_push}
+use Rattle.cqs_rule.specs.Passes.{ample_of}
 use Rattle.cqs_barrier_rounds.specs.Rounds.{IsOpened}
+use Rattle.cqs_barrier_rounds.proofs.Below.{each-none, each-push}
 use Rattle.cqs_barrier_rounds.proofs.Mine.{mine-none, mine-push}
 use Rattle.cqs_barrier_rounds.proofs.Pairs.{pairs-none, pairs-push}
 use Rattle.cqs_barrier_rounds.proofs.opening.open.Goals as goal
@@ -15,6 +17,7 @@ loop-round-init c = record {
   long = ap length c.new-barriers.ensures.items;
   mine = mine-none _ _ c.new-barriers.ensures.items c.new-passes.ensures.items;
   opened = pairs-none (IsOpened c.args.config c.args.parties) _ _ c.new-barriers.ensures.items;
+  ample = λ is. each-none (λ b. ample_of b.queue ≡ true) _ c.new-barriers.ensures.items;
   in_range = λ some bad. absurd (omega arith);
 }
 
@@ -28,16 +31,10 @@ loop-round-preserved c =
           (mine-push _ _ _ _ c.loop-round.invariant.mine c.in_ok-barrier.ensures.belongs);
       opened = rw (c.in-Ok.ensures.items, c.in-Ok-push.ensures.items)
           (pairs-push (IsOpened c.args.config c.args.parties) _ _ _ _ c.loop-round.invariant.mine.many
-          c.loop-round.invariant.opened (record {
-            parties_are = c.in_ok-barrier.ensures.parties;
-            passes = c.in_ok-barrier.ensures.passes.0;
-            limit = c.in_ok-barrier.ensures.passes.1;
-            first = c.in_ok-barrier.ensures.first;
-            own = c.in_ok-barrier.ensures.own;
-            nothing = c.in_ok-barrier.ensures.nothing;
-            alone = c.in_ok-barrier.ensures.alone;
-            all = c.in_ok-barrier.ensures.all;
-          }));
+          c.loop-round.invariant.opened c.in_ok-barrier.ensures.opened);
+      ample = λ is. rw c.in-Ok.ensures.items
+          (each-push (λ b. ample_of b.queue ≡ true) _ _ (c.loop-round.invariant.ample is)
+          (c.in_ok-barrier.ensures.ample is));
       in_range = λ some bad. not-err _ _ (c.in_ok-barrier.ensures.bad_config.1 bad);
     }
 
@@ -54,3 +51,6 @@ returns-clause-belongs c = c.loop-round.invariant.mine
 
 pub returns-clause-opened : goal.returns-clause-opened
 returns-clause-opened c = c.loop-round.invariant.opened
+
+pub returns-clause-ample : goal.returns-clause-ample
+returns-clause-ample c = c.loop-round.invariant.ample

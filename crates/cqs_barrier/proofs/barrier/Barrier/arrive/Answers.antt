@@ -4,15 +4,25 @@ use Rattle.cqs_barrier.specs.declared.answers.Owing.{Owing}
 use Rattle.cqs_barrier.specs.Resuming.{RanAll}
 use Rattle.cqs_barrier.specs.Word.{is_last}
 use Rattle.cqs_barrier.proofs.AloneCalls.{plain-last, plain-waits}
-use Rattle.cqs_barrier.proofs.ArriveSteps.{last-called, worn, came, more-to-come, came-last, came-owing, came-early, ends-last, ends-early}
+use Rattle.cqs_barrier.proofs.ArriveSteps.{last-called, worn, crowded, claimed, came, more-to-come, came-last, came-owing, came-early, ends-last, ends-early}
 use Rattle.cqs_barrier.proofs.barrier.Barrier.arrive.Goals as goal
 
 pub returns-then-next_wait-limit-clause-worn : goal.returns-then-next_wait-limit-clause-worn
 returns-then-next_wait-limit-clause-worn g c =
     let same = c.requires.belongs.limit in
     let high = c.if-next_wait-limit.true in
-    worn (pass_view c.args.pass.now) (pass_view c.next_wait.new.pass) c.next_wait.result c.next_wait.ensures.saw
+    λ is. worn (pass_view c.args.pass.now) (pass_view c.next_wait.new.pass) c.next_wait.result c.next_wait.ensures.saw
     (omega (arith, c.limit.ensures)) c.requires.ready c.requires.belongs.live.own c.next_wait.ensures.belongs.live.legal
+
+pub returns-in_default-clause-crowded : goal.returns-in_default-clause-crowded
+returns-in_default-clause-crowded g c =
+    let same = c.requires.belongs.limit in
+    let low = c.if-next_wait-limit.false in
+    let v = pass_view c.args.pass.now in
+    let below : c.next_wait.result < v.limit = omega (arith, c.limit.ensures) in
+    λ is. crowded v (pass_view c.next_wait.new.pass) (pass_view c.claim_spares.new.pass) c.next_wait.result
+    c.next_wait.ensures.saw below c.in_default.ensures.crowded c.requires.ready c.requires.belongs.live.own
+    c.claim_spares.ensures.belongs.live.legal
 
 pub returns-in-None-clause-arrived : goal.returns-in-None-clause-arrived
 returns-in-None-clause-arrived g c =
@@ -20,12 +30,14 @@ returns-in-None-clause-arrived g c =
     let low = c.if-next_wait-limit.false in
     let v = pass_view c.args.pass.now in
     let u = pass_view c.next_wait.new.pass in
+    let z = pass_view c.claim_spares.new.pass in
     let x = pass_view c.arrive_once-found.new.pass in
     let w = pass_view c.resume_all.new.pass in
     let m = c.arrive_once-found.result in
     let is : is_last m ≡ true = sym c.last.ensures ∙ c.if-last.true in
     let below : c.next_wait.result < v.limit = omega (arith, c.limit.ensures) in
-    (came-last m v x w is (came true v u x c.next_wait.result m is below c.next_wait.ensures.saw
+    let h = claimed v u z c.next_wait.result c.next_wait.ensures.saw c.in-Ok.ensures.claimed in
+    (came-last m v x w is (came true v z x c.next_wait.result m is below h
     c.arrive_once-found.ensures.saw)
     (subst (λ (z : Option Owing). RanAll x z w) c.in-None.is c.resume_all.ensures.ran) c.requires.belongs.live.own
     c.resume_all.ensures.belongs.live.legal).0
@@ -36,12 +48,14 @@ returns-in-None-clause-below g c =
     let low = c.if-next_wait-limit.false in
     let v = pass_view c.args.pass.now in
     let u = pass_view c.next_wait.new.pass in
+    let z = pass_view c.claim_spares.new.pass in
     let x = pass_view c.arrive_once-found.new.pass in
     let w = pass_view c.resume_all.new.pass in
     let m = c.arrive_once-found.result in
     let is : is_last m ≡ true = sym c.last.ensures ∙ c.if-last.true in
     let below : c.next_wait.result < v.limit = omega (arith, c.limit.ensures) in
-    (came-last m v x w is (came true v u x c.next_wait.result m is below c.next_wait.ensures.saw
+    let h = claimed v u z c.next_wait.result c.next_wait.ensures.saw c.in-Ok.ensures.claimed in
+    (came-last m v x w is (came true v z x c.next_wait.result m is below h
     c.arrive_once-found.ensures.saw)
     (subst (λ (z : Option Owing). RanAll x z w) c.in-None.is c.resume_all.ensures.ran) c.requires.belongs.live.own
     c.resume_all.ensures.belongs.live.legal).1
@@ -52,12 +66,14 @@ returns-in-Some-clause-arrived g c =
     let low = c.if-next_wait-limit.false in
     let v = pass_view c.args.pass.now in
     let u = pass_view c.next_wait.new.pass in
+    let z = pass_view c.claim_spares.new.pass in
     let x = pass_view c.arrive_once-found.new.pass in
     let w = pass_view c.resume_all.new.pass in
     let m = c.arrive_once-found.result in
     let is : is_last m ≡ true = sym c.last.ensures ∙ c.if-last.true in
     let below : c.next_wait.result < v.limit = omega (arith, c.limit.ensures) in
-    (came-owing m c.in-Some.owing v x w is (came true v u x c.next_wait.result m is below c.next_wait.ensures.saw
+    let h = claimed v u z c.next_wait.result c.next_wait.ensures.saw c.in-Ok.ensures.claimed in
+    (came-owing m c.in-Some.owing v x w is (came true v z x c.next_wait.result m is below h
     c.arrive_once-found.ensures.saw)
     (subst (λ (z : Option Owing). RanAll x z w) c.in-Some.is c.resume_all.ensures.ran) c.requires.belongs.live.own
     c.resume_all.ensures.belongs.live.legal).0
@@ -68,12 +84,14 @@ returns-in-Some-clause-below g c =
     let low = c.if-next_wait-limit.false in
     let v = pass_view c.args.pass.now in
     let u = pass_view c.next_wait.new.pass in
+    let z = pass_view c.claim_spares.new.pass in
     let x = pass_view c.arrive_once-found.new.pass in
     let w = pass_view c.resume_all.new.pass in
     let m = c.arrive_once-found.result in
     let is : is_last m ≡ true = sym c.last.ensures ∙ c.if-last.true in
     let below : c.next_wait.result < v.limit = omega (arith, c.limit.ensures) in
-    (came-owing m c.in-Some.owing v x w is (came true v u x c.next_wait.result m is below c.next_wait.ensures.saw
+    let h = claimed v u z c.next_wait.result c.next_wait.ensures.saw c.in-Ok.ensures.claimed in
+    (came-owing m c.in-Some.owing v x w is (came true v z x c.next_wait.result m is below h
     c.arrive_once-found.ensures.saw)
     (subst (λ (z : Option Owing). RanAll x z w) c.in-Some.is c.resume_all.ensures.ran) c.requires.belongs.live.own
     c.resume_all.ensures.belongs.live.legal).1
@@ -84,12 +102,14 @@ returns-clause-below g c =
     let low = c.if-next_wait-limit.false in
     let v = pass_view c.args.pass.now in
     let u = pass_view c.next_wait.new.pass in
+    let z = pass_view c.claim_spares.new.pass in
     let x = pass_view c.arrive_once-found.new.pass in
     let w = pass_view c.wait_for_others.new.pass in
     let m = c.arrive_once-found.result in
     let is : is_last m ≡ false = sym c.last.ensures ∙ c.if-last.false in
     let below : c.next_wait.result < v.limit = omega (arith, c.limit.ensures) in
-    let t = came false v u x c.next_wait.result m is below c.next_wait.ensures.saw c.arrive_once-found.ensures.saw in
+    let h = claimed v u z c.next_wait.result c.next_wait.ensures.saw c.in-Ok.ensures.claimed in
+    let t = came false v z x c.next_wait.result m is below h c.arrive_once-found.ensures.saw in
     (came-early m c.wait_for_others.result v x w
     (more-to-come m v x t c.arrive_once-found.ensures.belongs.live.legal) c.requires.ready t
     c.wait_for_others.ensures.waits c.requires.belongs.live.own c.wait_for_others.ensures.belongs.live.legal).1
@@ -100,12 +120,14 @@ returns-clause-arrived g c =
     let low = c.if-next_wait-limit.false in
     let v = pass_view c.args.pass.now in
     let u = pass_view c.next_wait.new.pass in
+    let z = pass_view c.claim_spares.new.pass in
     let x = pass_view c.arrive_once-found.new.pass in
     let w = pass_view c.wait_for_others.new.pass in
     let m = c.arrive_once-found.result in
     let is : is_last m ≡ false = sym c.last.ensures ∙ c.if-last.false in
     let below : c.next_wait.result < v.limit = omega (arith, c.limit.ensures) in
-    let t = came false v u x c.next_wait.result m is below c.next_wait.ensures.saw c.arrive_once-found.ensures.saw in
+    let h = claimed v u z c.next_wait.result c.next_wait.ensures.saw c.in-Ok.ensures.claimed in
+    let t = came false v z x c.next_wait.result m is below h c.arrive_once-found.ensures.saw in
     (came-early m c.wait_for_others.result v x w
     (more-to-come m v x t c.arrive_once-found.ensures.belongs.live.legal) c.requires.ready t
     c.wait_for_others.ensures.waits c.requires.belongs.live.own c.wait_for_others.ensures.belongs.live.legal).0
@@ -116,12 +138,14 @@ returns-in-None-clause-cell g c =
     let low = c.if-next_wait-limit.false in
     let v = pass_view c.args.pass.now in
     let u = pass_view c.next_wait.new.pass in
+    let z = pass_view c.claim_spares.new.pass in
     let x = pass_view c.arrive_once-found.new.pass in
     let w = pass_view c.resume_all.new.pass in
     let m = c.arrive_once-found.result in
     let is : is_last m ≡ true = sym c.last.ensures ∙ c.if-last.true in
     let below : c.next_wait.result < v.limit = omega (arith, c.limit.ensures) in
-    ends-last m v x w is (came true v u x c.next_wait.result m is below c.next_wait.ensures.saw
+    let h = claimed v u z c.next_wait.result c.next_wait.ensures.saw c.in-Ok.ensures.claimed in
+    ends-last m v x w is (came true v z x c.next_wait.result m is below h
     c.arrive_once-found.ensures.saw)
     (subst (λ (z : Option Owing). RanAll x z w) c.in-None.is c.resume_all.ensures.ran) c.requires.belongs.live.own
     c.resume_all.ensures.belongs.live.legal
@@ -132,12 +156,14 @@ returns-clause-cell g c =
     let low = c.if-next_wait-limit.false in
     let v = pass_view c.args.pass.now in
     let u = pass_view c.next_wait.new.pass in
+    let z = pass_view c.claim_spares.new.pass in
     let x = pass_view c.arrive_once-found.new.pass in
     let w = pass_view c.wait_for_others.new.pass in
     let m = c.arrive_once-found.result in
     let is : is_last m ≡ false = sym c.last.ensures ∙ c.if-last.false in
     let below : c.next_wait.result < v.limit = omega (arith, c.limit.ensures) in
-    let t = came false v u x c.next_wait.result m is below c.next_wait.ensures.saw c.arrive_once-found.ensures.saw in
+    let h = claimed v u z c.next_wait.result c.next_wait.ensures.saw c.in-Ok.ensures.claimed in
+    let t = came false v z x c.next_wait.result m is below h c.arrive_once-found.ensures.saw in
     ends-early m c.wait_for_others.result v x w
     (more-to-come m v x t c.arrive_once-found.ensures.belongs.live.legal) t c.wait_for_others.ensures.waits
     c.requires.belongs.live.own c.wait_for_others.ensures.belongs.live.legal
@@ -148,14 +174,16 @@ returns-in-None-clause-alone g c =
     let low = c.if-next_wait-limit.false in
     let v = pass_view c.args.pass.now in
     let u = pass_view c.next_wait.new.pass in
+    let z = pass_view c.claim_spares.new.pass in
     let x = pass_view c.arrive_once-found.new.pass in
     let w = pass_view c.resume_all.new.pass in
     let m = c.arrive_once-found.result in
     let is : is_last m ≡ true = sym c.last.ensures ∙ c.if-last.true in
     let below : c.next_wait.result < v.limit = omega (arith, c.limit.ensures) in
-    let t = came true v u x c.next_wait.result m is below c.next_wait.ensures.saw c.arrive_once-found.ensures.saw in
+    let h = claimed v u z c.next_wait.result c.next_wait.ensures.saw c.in-Ok.ensures.claimed in
+    let t = came true v z x c.next_wait.result m is below h c.arrive_once-found.ensures.saw in
     plain-last m None v x w t (subst (λ (z : Option Owing). RanAll x z w) c.in-None.is c.resume_all.ensures.ran)
-    (λ ks over ran. (last-called m ks over v x w is t ran c.requires.belongs.live.own
+    (λ ks ran. (last-called m ks v x w is t ran c.requires.belongs.live.own
     c.resume_all.ensures.belongs.live.legal).called)
     c.arrive_once-found.ensures.belongs.live.legal
     (c.resume_all.ensures.belongs.alone c.resume_all.new.pass.live.0)
@@ -166,15 +194,17 @@ returns-in-Some-clause-alone g c =
     let low = c.if-next_wait-limit.false in
     let v = pass_view c.args.pass.now in
     let u = pass_view c.next_wait.new.pass in
+    let z = pass_view c.claim_spares.new.pass in
     let x = pass_view c.arrive_once-found.new.pass in
     let w = pass_view c.resume_all.new.pass in
     let m = c.arrive_once-found.result in
     let is : is_last m ≡ true = sym c.last.ensures ∙ c.if-last.true in
     let below : c.next_wait.result < v.limit = omega (arith, c.limit.ensures) in
-    let t = came true v u x c.next_wait.result m is below c.next_wait.ensures.saw c.arrive_once-found.ensures.saw in
+    let h = claimed v u z c.next_wait.result c.next_wait.ensures.saw c.in-Ok.ensures.claimed in
+    let t = came true v z x c.next_wait.result m is below h c.arrive_once-found.ensures.saw in
     plain-last m (Some c.in-Some.owing) v x w t
     (subst (λ (z : Option Owing). RanAll x z w) c.in-Some.is c.resume_all.ensures.ran)
-    (λ ks over ran. (last-called m ks over v x w is t ran c.requires.belongs.live.own
+    (λ ks ran. (last-called m ks v x w is t ran c.requires.belongs.live.own
     c.resume_all.ensures.belongs.live.legal).called)
     c.arrive_once-found.ensures.belongs.live.legal
     (c.resume_all.ensures.belongs.alone c.resume_all.new.pass.live.0)
@@ -185,12 +215,14 @@ returns-clause-alone g c =
     let low = c.if-next_wait-limit.false in
     let v = pass_view c.args.pass.now in
     let u = pass_view c.next_wait.new.pass in
+    let z = pass_view c.claim_spares.new.pass in
     let x = pass_view c.arrive_once-found.new.pass in
     let w = pass_view c.wait_for_others.new.pass in
     let m = c.arrive_once-found.result in
     let is : is_last m ≡ false = sym c.last.ensures ∙ c.if-last.false in
     let below : c.next_wait.result < v.limit = omega (arith, c.limit.ensures) in
-    let t = came false v u x c.next_wait.result m is below c.next_wait.ensures.saw c.arrive_once-found.ensures.saw in
+    let h = claimed v u z c.next_wait.result c.next_wait.ensures.saw c.in-Ok.ensures.claimed in
+    let t = came false v z x c.next_wait.result m is below h c.arrive_once-found.ensures.saw in
     plain-waits m v x w c.wait_for_others.result
     (more-to-come m v x t c.arrive_once-found.ensures.belongs.live.legal) c.requires.ready t
     c.wait_for_others.ensures.waits c.requires.belongs.live.own c.wait_for_others.ensures.belongs.live.legal

@@ -1,9 +1,9 @@
-use Rattle.std.proofs.Common.{◌≡◌, ℕ, ◌<◌, Bool, true, false, Option, sym, ap, ◌∙◌, subst, ne_eqb, eq-eqb, refl}
+use Rattle.std.proofs.Common.{◌≡◌, ℕ, ◌<◌, true, false, Option, sym, ap, ◌∙◌, subst, ne_eqb, eq-eqb, refl}
 use Rattle.std.proofs.lemmas.Bool.{eqb-true}
 use Rattle.cqs_cell.specs.Transitions.{HasSettled}
 use Rattle.cqs_rule.specs.Passes.{pass_view}
 use Rattle.cqs_rule.proofs.Places.{knows-saw}
-use Rattle.cqs_barrier.specs.declared.answers.PartyLeft.TheVariants.{Contended, TooLate}
+use Rattle.cqs_barrier.specs.declared.answers.PartyLeft.TheVariants.{Contended}
 use Rattle.cqs_barrier.specs.Barrier.{barrier_object}
 use Rattle.cqs_barrier.specs.Leaving.{Leaves, LookedAt, deciding}
 use Rattle.cqs_barrier.specs.Word.{is_over, remaining_in}

@@ -1,7 +1,7 @@
-use Rattle.std.proofs.Common.{[], ◌-◌, Some, subst, arith}
+use Rattle.std.proofs.Common.{◌-◌, Some, subst, arith}
 use Rattle.cqs_rule.specs.Passes.{pass_view}
 use Rattle.cqs_barrier.specs.Resuming.{HasGrown, RanNext, RanAll}
-use Rattle.cqs_barrier.proofs.ResumeSteps.{ran-none, all-handed, all-on}
+use Rattle.cqs_barrier.proofs.ResumeSteps.{ran-nothing, all-handed, all-on}
 use Rattle.cqs_barrier.proofs.barrier.Barrier.resume_all.Goals as goal
 
 pub loop-left-init : goal.loop-left-init
@@ -9,7 +9,7 @@ loop-left-init g c = record {
   belongs = c.requires.belongs;
   owes = c.requires.owes;
   reached = omega arith;
-  ran = ([], [], ran-none _);
+  ran = ran-nothing _;
 }
 
 pub returns-in-Some-clause-ran : goal.returns-in-Some-clause-ran
@@ -44,4 +44,7 @@ returns-in-Some-clause-grown g c =
     let w = pass_view c.resume_next.new.pass in
     let before = c.loop-left.invariant.reached in
     let last = subst (λ z. HasGrown u.facts.reached z w) c.in-Some.is c.resume_next.ensures.grown in
-    omega (arith, before, last)
+    record {
+      before = let after = last.before in omega (arith, before, after);
+      further = λ none. let after = last.further none in omega (arith, before, after);
+    }

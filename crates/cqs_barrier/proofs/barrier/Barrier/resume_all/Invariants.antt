@@ -1,7 +1,8 @@
-use Rattle.std.proofs.Common.{◌≤◌, ℕ, List}
+use Rattle.std.proofs.Common.{◌≤◌}
 use Rattle.cqs_rule.specs.Passes.{pass_view}
 use Rattle.cqs_barrier.specs.Calls.{IsMine}
-use Rattle.cqs_barrier.specs.Resuming.{OwesMore, Ran}
+use Rattle.cqs_barrier.specs.Resuming.{OwesMore}
+use Rattle.cqs_barrier.proofs.ResumeSteps.{RanSo}
 use Rattle.cqs_barrier.proofs.barrier.Barrier.resume_all.Given as goal
 
 abbrev pub invariant-loop-left : goal.invariant-loop-left
@@ -9,7 +10,7 @@ invariant-loop-left g l = record {
   belongs : IsMine l.self l.pass;
   owes : OwesMore l.left (pass_view l.pass).facts;
   reached : (pass_view l.fn.pass).facts.reached ≤ (pass_view l.pass).facts.reached;
-  ran : (ks : List ℕ) × (over : List ℕ) × Ran ks over (pass_view l.fn.pass) (pass_view l.pass);
+  ran : RanSo (pass_view l.fn.pass) (pass_view l.pass);
 }
 
 abbrev pub decreases-loop-left : goal.decreases-loop-left

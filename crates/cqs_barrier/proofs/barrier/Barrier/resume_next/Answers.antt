@@ -3,7 +3,7 @@ use Rattle.cqs_rule.specs.Passes.{pass_view}
 use Rattle.cqs_barrier.specs.Calls.{IsMine}
 use Rattle.cqs_barrier.specs.Resuming.{RanNext}
 use Rattle.cqs_barrier.proofs.Grown.{grown-since}
-use Rattle.cqs_barrier.proofs.ResumeSteps.{began, next-after}
+use Rattle.cqs_barrier.proofs.ResumeSteps.{began, began-there, next-after}
 use Rattle.cqs_barrier.proofs.barrier.Barrier.resume_next.Goals as goal
 
 pub resume_on-requires-clause-belongs : goal.resume_on-requires-clause-belongs
@@ -17,6 +17,7 @@ returns-clause-ran g c =
     let w = pass_view c.resume_on.new.pass in
     next-after c.args.left c.resume_on.result v u w
     (began c.add_table-number.result c.args.left v u c.requires.owes c.add_table-number.ensures.saw)
+    (began-there c.add_table-number.result v u c.add_table-number.ensures.saw)
     (subst (λ p. RanNext c.args.left (pass_view p) c.resume_on.result w) c.under_of-under.ensures.same
     c.resume_on.ensures.ran)
 

@@ -29,3 +29,8 @@ pub returns-clause-arrived : goal.returns-clause-arrived
 returns-clause-arrived c = λ in_time.
     called-set _ _ _ _ _ (at-pass _ _ _ _ c.requires.belongs in_time c.index_mut.ensures.value)
     c.arrive_at.ensures.arrived
+
+pub returns-clause-never_crowded : goal.returns-clause-never_crowded
+returns-clause-never_crowded c = λ ample.
+    let low : c.args.member.round < length c.args.self.now.barriers.items = omega arith in
+    c.arrive_at.ensures.never_crowded (ample _ _ (stands-at _ _ _ low c.index.ensures))

@@ -20,3 +20,7 @@ pub returns-clause-finished : goal.returns-clause-finished
 returns-clause-finished c =
     called-set _ _ _ _ _ (at-pass _ _ _ _ c.requires.belongs c.requires.member c.index_mut.ensures.value)
     c.finish_at.ensures.finished
+
+pub returns-clause-grown : goal.returns-clause-grown
+returns-clause-grown c = λ ample.
+    c.finish_at.ensures.grown (ample _ _ (stands-at _ _ _ c.requires.member c.index.ensures))

@@ -1,5 +1,5 @@
 -- A post and what it has in hand: in the line for room, as it sends, and as it reclaims.
-use Rattle.std.proofs.Common.{◌≡◌, ◌≢◌, ◌↔◌, ℕ, zero, suc, ◌==◌, ◌<◌, true, false, List, [], ◌∷◌, ◌++◌, map, length, Option, Some, None, Result, Ok, Err, IfOk, IsOk, OnErr, IfSome, IsSome, MatchOption, option_to_list, get_or, refl, sym, ap, ◌∙◌, subst, inl, inr, ⊎_elim, ne_eqb, arith}
+use Rattle.std.proofs.Common.{◌≡◌, ◌≢◌, ◌↔◌, ℕ, zero, suc, ◌==◌, ◌<◌, true, false, List, [], ◌∷◌, ◌++◌, map, length, Option, Some, None, Result, Ok, Err, IfOk, IfErr, IsErrOf, OnErr, IfSome, IsSome, MatchOption, option_to_list, get_or, refl, sym, ap, ◌∙◌, subst, inl, inr, ⊎_elim, ne_eqb, arith}
 use Rattle.std.proofs.lemmas.List.{map-append, length-map}
 use Rattle.std.proofs.lemmas.Option.{same_Some, slice_get-get_or}
 use Rattle.std.specs.VecDeque.{deque_len, deque_capacity}
@@ -9,6 +9,8 @@ use Rattle.crossbeam_queue.specs.Passes.{Pass, view, IsPassOf}
 use Rattle.cqs_core.proofs.Places.{get-below}
 use Rattle.cqs_pool_object.specs.declared.entries.PoolEntry.{PoolEntry}
 use Rattle.cqs_rule_laws.specs.declared.config.AcquireError.{AcquireError}
+use Rattle.cqs_rule_laws.specs.declared.config.AcquireError.TheVariants as refused
+use Rattle.cqs_rule_laws.specs.declared.config.AcquireError.TheVariants.{Worn}
 use Rattle.cqs_rule_laws.specs.declared.config.Crowded.{Crowded}
 use Rattle.cqs_rule_laws.specs.declared.view.Facts.{Facts}
 use Rattle.cqs_rule_laws.specs.declared.view.View.{View}
@@ -16,6 +18,7 @@ use Rattle.cqs_rule_laws.specs.Called.{Called}
 use Rattle.cqs_rule_laws.specs.Lists.{Has, without}
 use Rattle.cqs_rule_laws.proofs.Lists.{has_append, distinct_append, few_below, without_has}
 use Rattle.cqs_rule.proofs.Places.{has-wait-called}
+use Rattle.cqs_rule.specs.Claims.{WasCrowded}
 use Rattle.cqs_rule.specs.declared.queue.tokens.Wait.{Wait}
 use Rattle.cqs_pool.specs.declared.answers.Placed.{Placed}
 use Rattle.cqs_pool.specs.declared.answers.Placed.TheVariants.{Sent, Left, Under}
@@ -27,7 +30,7 @@ use Rattle.cqs_pool.specs.declared.answers.Taking.{Taking}
 use Rattle.cqs_pool.specs.declared.answers.Taking.TheVariants.{Took, Later}
 use Rattle.cqs_pool.specs.declared.element.Element.{Element}
 use Rattle.cqs_pool.specs.Alone.{CancelsNew, PollsNew, TakesNew}
-use Rattle.cqs_pool.specs.Answers.{Ends, IsInHand, IsPolled, IsWorn, LeavesPass, Takes}
+use Rattle.cqs_pool.specs.Answers.{Ends, IsCrowded, IsInHand, IsPolled, IsWorn, LeavesPass, Takes}
 use Rattle.cqs_pool.specs.Calls.{IsMine}
 use Rattle.cqs_pool.specs.Elements.{number_of}
 use Rattle.cqs_pool.specs.Pool.{pool_object}
@@ -56,13 +59,14 @@ ends-waits v w e elements waits (Sent k) t = t.1.waits_are
 ends-waits v w e elements waits (Left k) t = t.1.waits_are
 ends-waits v w e elements waits (Under under) t = t.waits_are
 
--- and its waits stay its own
+-- and its waits stay its own, after one that was refused too
 pub put-waits : (v w : View PoolEntry (Unit {0})) (e : ℕ) (elements : List ℕ) (es last : List PoolEntry)
-    (r : Result Placed (Element × Crowded)) → IfOk r (λ a. Ends v e elements v.facts.waits a w) → IsOk r
-    → Called pool_object v es last w → KeepsWaits v w
-put-waits v w e elements es last (Ok a) ends ok called = λ wait has.
+    (r : Result Placed (Element × Crowded)) → IfOk r (λ a. Ends v e elements v.facts.waits a w)
+    → OnErr r (WasCrowded 1 v.facts v w) → Called pool_object v es last w → KeepsWaits v w
+put-waits v w e elements es last (Ok a) ends crowded called = λ wait has.
     has-wait-called pool_object v w es last wait called (ends-waits v w e elements v.facts.waits a ends) has
-put-waits v w e elements es last (Err x) ends ok called = absurd (cc)
+put-waits v w e elements es last (Err x) ends crowded called = λ wait has.
+    has-wait-called pool_object v w es last wait called (ap (λ (f : Facts). f.waits) crowded.facts_are) has
 
 -- What a pass had in hand before a call in the line it has after it.
 abbrev KeepsHand : View PoolEntry (Unit {0}) → View PoolEntry (Unit {0}) → Type 0
@@ -79,9 +83,20 @@ takes-hand v w (Took x) t = more-hand v w (number_of x) t.1.elements_are
 takes-hand v w (Later wait) t = same-hand v w t.2.elements_are
 
 pub took-hand : (v w : View PoolEntry (Unit {0})) (r : Result Taking AcquireError)
-    → IfOk r (λ taking. Takes v taking w) → OnErr r (IsWorn v w) → KeepsHand v w
-took-hand v w (Ok a) took worn = takes-hand v w a took
-took-hand v w (Err e) took worn = same-hand v w (ap (λ (f : Facts). f.has.slots) worn.facts_are)
+    → IfOk r (λ taking. Takes v taking w) → (IsErrOf r Worn → IsWorn v w)
+    → (IsErrOf r refused.Crowded → IsCrowded v w) → KeepsHand v w
+took-hand v w (Ok a) took worn crowded = takes-hand v w a took
+took-hand v w (Err Worn) took worn crowded =
+    same-hand v w (ap (λ (f : Facts). f.has.slots) (worn refl).facts_are)
+took-hand v w (Err refused.Crowded) took worn crowded =
+    same-hand v w (ap (λ (f : Facts). f.has.slots) (crowded refl).crowded.facts_are)
+
+-- an error of the pool is the mailbox's
+pub same-error : (e x : AcquireError) → IsErrOf {T = Room} (Err e) x → IsErrOf {T = Taking} (Err e) x
+same-error Worn Worn is = refl
+same-error refused.Crowded refused.Crowded is = refl
+same-error Worn refused.Crowded is = absurd (cc)
+same-error refused.Crowded Worn is = absurd (cc)
 
 pub polled-hand : (v w : View PoolEntry (Unit {0})) (wait : Wait) (a : PoolPolled) → IsPolled wait v a w
     → KeepsHand v w
@@ -99,16 +114,17 @@ ended-hand v w e waits a t = same-hand v w (ends-slots v w e v.facts.has.slots w
 
 -- but for the envelope that it put
 pub put-hand : (v w : View PoolEntry (Unit {0})) (e : ℕ) (waits : List ℕ) (r : Result Placed (Element × Crowded))
-    → IfOk r (λ a. Ends v e (without e v.facts.has.slots) waits a w) → IsOk r → (n : ℕ) → n ≢ e
-    → IsInHand n v.facts → IsInHand n w.facts
-put-hand v w e waits r ends ok n other has = go r ends ok
+    → IfOk r (λ a. Ends v e (without e v.facts.has.slots) waits a w) → OnErr r (WasCrowded 1 v.facts v w) → (n : ℕ)
+    → n ≢ e → IsInHand n v.facts → IsInHand n w.facts
+put-hand v w e waits r ends crowded n other has = go r ends crowded
   where
     go : (r : Result Placed (Element × Crowded))
-        → IfOk r (λ a. Ends v e (without e v.facts.has.slots) waits a w) → IsOk r → IsInHand n w.facts
-    go (Ok a) ends ok =
+        → IfOk r (λ a. Ends v e (without e v.facts.has.slots) waits a w) → OnErr r (WasCrowded 1 v.facts v w)
+        → IsInHand n w.facts
+    go (Ok a) ends crowded =
         subst (Has n) (sym (ends-slots v w e (without e v.facts.has.slots) waits a ends))
         (without_has n e v.facts.has.slots other has)
-    go (Err x) ends ok = absurd (cc)
+    go (Err x) ends crowded = subst (Has n) (sym (ap (λ (f : Facts). f.has.slots) crowded.facts_are)) has
 
 -- A call in the line leaves the post as one of the mailbox.
 pub line-kept : (m : Mailbox) (p q : Post) → IsPostOf m p → IsInLine p q → IsMine m.pool q.pool
@@ -151,6 +167,18 @@ pub cancel-spares : (p q : Post) (k : ℕ) (a : PoolLeft) → AreOut (numbers_ou
 cancel-spares p q k (Cancelled under) out same left new = tt
 cancel-spares p q k (TooLate x) out same left new =
     spare-new p q (number_of x) out same (subst (Has (number_of x)) (sym left.elements_are) (inl refl)) new
+
+-- An envelope that was refused as crowded is still one to spare.
+pub crowded-spares : (p q : Post) (envelope : Element) (r : Result Placed (Element × Crowded)) → IsInLine p q
+    → OnErr r (WasCrowded 1 (line_view p).facts (line_view p) (line_view q)) → IfErr r (λ x. x.0 ≡ envelope)
+    → IsSpare (number_of envelope) p → IfErr r (λ x. IsSpare (number_of x.0) q)
+crowded-spares p q envelope (Ok a) same crowded back is = tt
+crowded-spares p q envelope (Err x) same crowded back is =
+    subst (λ (y : Element). IsSpare (number_of y) q) (sym back) (record {
+      in_hand = same-hand (line_view p) (line_view q) (ap (λ (f : Facts). f.has.slots) crowded.facts_are)
+          (number_of envelope) is.in_hand;
+      not_out = λ has. is.not_out (subst (λ (y : Post). Has (number_of envelope) (numbers_out y)) same has);
+    })
 
 -- There is room for the envelope of one letter more.
 pub out-space : (m : Mailbox) (p : Post) (e : ℕ) → IsPostOf m p → IsSpare e p → deque_len p.sent < deque_capacity p.sent

@@ -26,7 +26,8 @@ const MOST_PASSES: u32 = 32;
 impl Mailbox {
     /// A mailbox with this many envelopes, its desk, and its first post, which is sender 0. The
     /// desk has one of the passes and each post another: there are from 2 to 32. There are from 1
-    /// to 4,096 envelopes, and at most `limit` calls for room in all, from 1 to 1,048,576.
+    /// to 4,096 envelopes, and at most `limit` calls for room in all, from 1 to 68,719,476,736. The
+    /// pool has `2 * passes + 8 + room / 32` slots, which are used again.
     pub fn new(
         alloc: Global,
         room: u32,
@@ -121,7 +122,8 @@ fn rest_all(
     Ok(made)
 }
 
-// How the pool of the envelopes is made.
+// How the pool of the envelopes is made. Its slots have room for the envelopes, and for some 160
+// calls that wait at once.
 fn config_of(room: u32, passes: u32, limit: u64) -> Option<Config>
     ensures none { IsNone result → (4096 < room) ⊎ (passes < 2)
         ⊎ (is_config (config_for room passes limit) ≡ false) }

@@ -18,7 +18,7 @@ use std::thread::{self, Threads};
 pub type Pair = (Post, Post);
 
 /// So many calls for room there may be.
-const LIMIT: u64 = 1 << 20;
+const LIMIT: u64 = 1 << 36;
 
 /// A post that leaves the line does so after two looks at first.
 pub const IMPATIENT: u32 = 2;

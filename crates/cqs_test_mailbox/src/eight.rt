@@ -20,9 +20,8 @@ type Four = (Pair, Pair);
 /// Each post sends so many letters.
 const LETTERS: u64 = 25;
 
-/// So many calls for room there may be. A letter takes few of them, since a post that leaves the
-/// line is twice as patient the next time.
-const LIMIT: u64 = 1 << 14;
+/// So many calls for room there may be.
+const LIMIT: u64 = 1 << 36;
 
 // The desk makes two posts.
 fn hire_two(rt: &impl Abort, alloc: Global, mailbox: &Mailbox, desk: &mut Desk) -> Pair

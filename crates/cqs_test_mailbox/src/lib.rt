@@ -7,6 +7,8 @@ mod acknowledgements;
 #[cfg(test)]
 mod crews;
 #[cfg(test)]
+mod crowded;
+#[cfg(test)]
 mod desks;
 #[cfg(test)]
 mod eight;

@@ -1,5 +1,5 @@
 //! A million letters of one post, on one thread: each is received and acknowledged before the next
-//! one is sent, with the envelope that came back.
+//! one is sent, with the envelope that came back, or with one for which the post asked anew.
 
 ghost use Rattle.cqs_mailbox.specs.Mailboxes.{IsDeskOf};
 ghost use Rattle.cqs_test_mailbox.specs.Posts.{HasSpare, IsAtRest};
@@ -56,7 +56,23 @@ fn deliver_all(rt: &(impl Abort + Wait), mailbox: &Mailbox, given: Desk, first: 
     for number in 0..LETTERS {
         envelope = deliver(rt, mailbox, &mut desk, &mut post, envelope, number);
     }
-    give_back(mailbox, &mut post, envelope);
+    give_back(rt, mailbox, &mut post, envelope);
+    take_in(rt, mailbox, &mut desk, post);
+    find_empty(rt, mailbox, &mut desk);
+}
+
+// All letters go so, but the post gives the envelope back after each and asks for room again.
+fn deliver_anew(rt: &(impl Abort + Wait), mailbox: &Mailbox, given: Desk, first: Post)
+    requires desk { IsDeskOf mailbox.now given }
+    requires rest { IsAtRest mailbox.now first }
+{
+    let mut desk = given;
+    let mut post = first;
+    for number in 0..LETTERS {
+        let envelope = get_room(rt, mailbox, &mut post);
+        let envelope = deliver(rt, mailbox, &mut desk, &mut post, envelope, number);
+        give_back(rt, mailbox, &mut post, envelope);
+    }
     take_in(rt, mailbox, &mut desk, post);
     find_empty(rt, mailbox, &mut desk);
 }
@@ -65,5 +81,13 @@ fn deliver_all(rt: &(impl Abort + Wait), mailbox: &Mailbox, given: Desk, first: 
 fn a_million_letters(rt: HostRuntime) -> Result<(), Fail> {
     let (mailbox, desk, post) = Mailbox::new(rt.alloc(), 1, 2, 1)?;
     deliver_all(&rt, &mailbox, desk, post);
+    Ok(())
+}
+
+// Their calls for room are as many, and the pool has twelve slots of 32 calls each.
+#[test]
+fn a_million_calls_for_room(rt: HostRuntime) -> Result<(), Fail> {
+    let (mailbox, desk, post) = Mailbox::new(rt.alloc(), 1, 2, 1 << 36)?;
+    deliver_anew(&rt, &mailbox, desk, post);
     Ok(())
 }

@@ -25,8 +25,8 @@ pub fn get_room(rt: &impl Abort, mailbox: &Mailbox, post: &mut Post) -> Envelope
     envelope
 }
 
-// It isn't, and the post waits under this number.
-fn wait_for_room(rt: &impl Abort, mailbox: &Mailbox, post: &mut Post, number: u64) -> PostWait
+/// It isn't, and the post waits under this number.
+pub fn wait_for_room(rt: &impl Abort, mailbox: &Mailbox, post: &mut Post, number: u64) -> PostWait
     requires rest { IsAtRest mailbox.now post.old }
     ensures waits { IsWaiting mailbox.now result post.new }
 {
@@ -223,7 +223,7 @@ fn mailboxes_out_of_range(rt: HostRuntime) {
         (1, u32::MAX, 8),
         (u32::MAX, 2, 8),
         (1, 2, 0),
-        (1, 2, 1_048_577),
+        (1, 2, 68_719_476_737),
     ] {
         let made = Mailbox::new(rt.alloc(), room, passes, limit);
         assert!(rt; made.err() == Some(MakeError::BadConfig));

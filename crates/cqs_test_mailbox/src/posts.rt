@@ -5,7 +5,7 @@ ghost use Rattle.cqs_test_mailbox.specs.Posts.{HasCome, HasLooked, HasSpare, IsA
 
 use cqs_mailbox::{Envelope, Mailbox, Post, PostWait, Room, RoomLeft, RoomPolled};
 use cqs_pool::Placed;
-use cqs_rule::Under;
+use cqs_rule::{AcquireError, Under};
 use std::process::Abort;
 use std::sync::Wait;
 use std::thread;
@@ -30,22 +30,28 @@ fn look_on(mailbox: &Mailbox, post: &mut Post, wait: PostWait, looks: u32) -> Ro
 }
 
 // Leaves the line. There is an envelope where one had come before.
-fn give_up(mailbox: &Mailbox, post: &mut Post, wait: PostWait) -> Option<Envelope>
+fn give_up(rt: &impl Wait, mailbox: &Mailbox, post: &mut Post, wait: PostWait) -> Option<Envelope>
     requires waits { IsWaiting mailbox.now wait post.old }
     ensures come { HasCome mailbox.now result post.new }
 {
     match mailbox.cancel(post, wait) {
         RoomLeft::Cancelled(None) => None,
         RoomLeft::Cancelled(Some(under)) => {
-            finish_all(mailbox, post, under);
+            finish_all(rt, mailbox, post, under);
             None
         }
         RoomLeft::TooLate(envelope) => Some(envelope),
     }
 }
 
-// Asks for room. Where it has to wait it looks so often, and leaves the line then.
-fn seek(rt: &impl Abort, mailbox: &Mailbox, post: &mut Post, looks: u32) -> Option<Envelope>
+// Asks for room. Where it has to wait it looks so often, and leaves the line then. Where no slot is
+// free for its wait it has none.
+fn seek(
+    rt: &(impl Abort + Wait),
+    mailbox: &Mailbox,
+    post: &mut Post,
+    looks: u32,
+) -> Option<Envelope>
     requires rest { IsAtRest mailbox.now post.old }
     ensures come { HasCome mailbox.now result post.new }
 {
@@ -53,13 +59,15 @@ fn seek(rt: &impl Abort, mailbox: &Mailbox, post: &mut Post, looks: u32) -> Opti
         Ok(Room::Got(envelope)) => Some(envelope),
         Ok(Room::Later(wait)) => match look_on(mailbox, post, wait, looks) {
             RoomPolled::Granted(envelope) => Some(envelope),
-            RoomPolled::Pending(wait) => give_up(mailbox, post, wait),
+            RoomPolled::Pending(wait) => give_up(rt, mailbox, post, wait),
         },
-        Err(_) => panic!(rt; "the limit is used up"),
+        Err(AcquireError::Crowded) => None,
+        Err(AcquireError::Worn) => panic!(rt; "the limit is used up"),
     }
 }
 
-// Comes to an envelope. A post that leaves the line is more patient the next time.
+// Comes to an envelope. A post that leaves the line is more patient the next time, and so is one
+// that found no slot free.
 fn obtain(rt: &(impl Abort + Wait), mailbox: &Mailbox, post: &mut Post, patience: u32) -> Envelope
     requires rest { IsAtRest mailbox.now post.old }
     ensures spare { HasSpare mailbox.now result post.new }
@@ -75,30 +83,42 @@ fn obtain(rt: &(impl Abort + Wait), mailbox: &Mailbox, post: &mut Post, patience
     unreachable!()
 }
 
-/// Gives an envelope back.
-pub fn give_back(mailbox: &Mailbox, post: &mut Post, envelope: Envelope)
+/// Gives an envelope back, as soon as a slot is free for that.
+pub fn give_back(rt: &impl Wait, mailbox: &Mailbox, post: &mut Post, envelope: Envelope)
     requires spare { HasSpare mailbox.now envelope post.old }
     ensures rest { IsAtRest mailbox.now post.new }
 {
-    match mailbox.post_back(post, envelope) {
-        Ok(Placed::Sent(_) | Placed::Left(_)) => (),
-        Ok(Placed::Under(under)) => finish_all(mailbox, post, under),
-        Err(_) => unreachable!(),
+    let mut envelope = envelope;
+    for _ in rt.forever() {
+        match mailbox.post_back(post, envelope) {
+            Ok(Placed::Sent(_) | Placed::Left(_)) => return,
+            Ok(Placed::Under(under)) => return finish_all(rt, mailbox, post, under),
+            Err((back, _)) => {
+                envelope = back;
+                thread::yield_now();
+            }
+        }
     }
+    unreachable!()
 }
 
-// Goes on with an envelope that is on its way until it has arrived.
-fn finish_all(mailbox: &Mailbox, post: &mut Post, under: Under)
+// Goes on with an envelope that is on its way until it has arrived. Between two calls another
+// thread may run, and slots may become free.
+fn finish_all(rt: &impl Wait, mailbox: &Mailbox, post: &mut Post, under: Under)
     requires owes { IsOwing mailbox.now under post.old }
     ensures rest { IsAtRest mailbox.now post.new }
 {
     let mut under = under;
-    'arrive: loop {
+    for _ in rt.forever() {
         match mailbox.post_finish(post, under) {
-            Placed::Under(again) => under = again,
+            Placed::Under(again) => {
+                under = again;
+                thread::yield_now();
+            }
             Placed::Sent(_) | Placed::Left(_) => return,
         }
     }
+    unreachable!()
 }
 
 // Sends a letter with this word, for which there is room, and waits for its acknowledgement.
@@ -113,7 +133,7 @@ fn send_one(rt: &(impl Abort + Wait), mailbox: &Mailbox, post: &mut Post, word: 
     assert!(rt; number == word);
     for _ in rt.forever() {
         if let Some(envelope) = mailbox.reclaim(rt, post) {
-            give_back(mailbox, post, envelope);
+            give_back(rt, mailbox, post, envelope);
             return;
         }
         thread::yield_now();

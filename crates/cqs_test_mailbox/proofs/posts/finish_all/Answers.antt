@@ -1,7 +1,7 @@
 use Rattle.cqs_test_mailbox.proofs.posts.finish_all.Goals as goal
 
-pub arrive-preserved : goal.arrive-preserved
-arrive-preserved c =
+pub loop-preserved : goal.loop-preserved
+loop-preserved g c =
     let ends = rw c.in-Under.is at c.post_finish.ensures.ends in
     record {
       owing = record {

@@ -30,6 +30,12 @@ calls-worn c x more = calls-acquire c (record c.acquires { worn = x })
     (λ fits.
     let one = counted-one (acquires_of c.acquires) c.acquires.worn x more (omega arith) fits in omega (arith, one))
 
+pub calls-crowded : (c : Counts) (x : ℕ) → x ≡ count_of (c.acquires.crowded + 1)
+    → CountsCalls 1 0 c (record c { acquires = record c.acquires { crowded = x } })
+calls-crowded c x more = calls-acquire c (record c.acquires { crowded = x })
+    (λ fits.
+    let one = counted-one (acquires_of c.acquires) c.acquires.crowded x more (omega arith) fits in omega (arith, one))
+
 -- one whose permit came at once
 pub calls-now : (number : Option ℕ) (c : Counts) (a : Acquires) → CountsNow number c.acquires a
     → CountsCalls 1 0 c (record c { acquires = a })
@@ -40,7 +46,8 @@ calls-now None c a is = calls-acquire c a
     let took = ap (λ (x : Acquires). x.took) is in
     let waited = ap (λ (x : Acquires). x.waited) is in
     let worn = ap (λ (x : Acquires). x.worn) is in
-    omega (arith, one, took, waited, worn))
+    let crowded = ap (λ (x : Acquires). x.crowded) is in
+    omega (arith, one, took, waited, worn, crowded))
 calls-now (Some k) c a is = calls-acquire c a
     (λ fits.
     let one = counted-one (acquires_of c.acquires) c.acquires.took a.took (ap (λ (x : Acquires). x.took) is)
@@ -48,7 +55,8 @@ calls-now (Some k) c a is = calls-acquire c a
     let free = ap (λ (x : Acquires). x.free) is in
     let waited = ap (λ (x : Acquires). x.waited) is in
     let worn = ap (λ (x : Acquires). x.worn) is in
-    omega (arith, one, free, waited, worn))
+    let crowded = ap (λ (x : Acquires). x.crowded) is in
+    omega (arith, one, free, waited, worn, crowded))
 
 -- a try
 calls-try : (c : Counts) (t : Tries) → (tries_of c.tries + 1 < 2 ^ 64 → tries_of t ≡ tries_of c.tries + 1)

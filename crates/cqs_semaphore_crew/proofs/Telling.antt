@@ -152,6 +152,23 @@ module _ {T : Type 0} where
     ends = told.ends;
   })
 
+  -- no slot was free: nothing is told of that count
+  pub adds-crowded : (v w : View Entry T) (c : Counts) (x : ℕ) → CallRule v [] [] w
+      → Adds 0 0 v c w (record c { acquires = record c.acquires { crowded = x } })
+  adds-crowded v w c x rule = adds-call 0 0 v w c _ [] [] rule (λ t told. record {
+    acquires = record {
+      free_is = told.acquires.free_is;
+      took = told.acquires.took;
+      waited = told.acquires.waited;
+      entered_is = told.acquires.entered_is;
+      took_is = told.acquires.took_is;
+      waited_is = told.acquires.waited_is;
+    };
+    tries = told.tries;
+    polls = told.polls;
+    ends = told.ends;
+  })
+
   -- a try got a permit
   pub adds-got : (v w : View Entry T) (c : Counts) (x : ℕ) → CallRule v (entry.TryGot v.number ∷ []) [] w
       → x ≡ one_more c.tries.got → Adds 0 0 v c w (record c { tries = record c.tries { got = x } })

@@ -19,6 +19,7 @@ both_acquires a b = record {
   took = both a.took b.took;
   waited = both a.waited b.waited;
   worn = both a.worn b.worn;
+  crowded = both a.crowded b.crowded;
 }
 
 abbrev pub both_tries : Tries → Tries → Tries
@@ -62,7 +63,7 @@ both_counts a b = record {
 -- of nobody
 abbrev pub no_counts : Counts
 no_counts = record {
-  acquires = record { free = 0; took = 0; waited = 0; worn = 0 };
+  acquires = record { free = 0; took = 0; waited = 0; worn = 0; crowded = 0 };
   tries = record { got = 0; busy = 0; contended = 0 };
   releases = record { freed = 0; sent = 0; left = 0; void = 0; under = 0 };
   polls = record { granted = 0; pending = 0 };
@@ -71,7 +72,7 @@ no_counts = record {
 
 -- how many acquires these are
 abbrev pub acquires_of : Acquires → ℕ
-acquires_of a = a.free + a.took + a.waited + a.worn
+acquires_of a = a.free + a.took + a.waited + a.worn + a.crowded
 
 -- how many tries
 abbrev pub tries_of : Tries → ℕ

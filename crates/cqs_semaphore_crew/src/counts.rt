@@ -17,6 +17,8 @@ pub struct Acquires {
     pub waited: u64,
     /// As many numbers had been drawn as the limit allows.
     pub worn: u64,
+    /// No slot was free.
+    pub crowded: u64,
 }
 
 /// The answers to `try_acquire`.
@@ -79,6 +81,7 @@ pub(crate) fn none_yet() -> Counts
             took: 0,
             waited: 0,
             worn: 0,
+            crowded: 0,
         },
         tries: Tries {
             got: 0,
@@ -172,6 +175,7 @@ impl Acquires {
             .saturating_add(self.took)
             .saturating_add(self.waited)
             .saturating_add(self.worn)
+            .saturating_add(self.crowded)
     }
 
     fn with(self, other: Acquires) -> Acquires
@@ -182,6 +186,7 @@ impl Acquires {
             took: self.took.saturating_add(other.took),
             waited: self.waited.saturating_add(other.waited),
             worn: self.worn.saturating_add(other.worn),
+            crowded: self.crowded.saturating_add(other.crowded),
         }
     }
 }
@@ -255,8 +260,8 @@ impl fmt::Display for Counts {
         } = self;
         writeln!(
             f,
-            "acquire: {} free, {} took, {} waited, {} worn",
-            acquires.free, acquires.took, acquires.waited, acquires.worn
+            "acquire: {} free, {} took, {} waited, {} worn, {} crowded",
+            acquires.free, acquires.took, acquires.waited, acquires.worn, acquires.crowded
         )?;
         writeln!(
             f,

@@ -13,6 +13,7 @@ use crate::worker::work;
 use cqs_rule::Crowd;
 use cqs_semaphore::{SemPass, Semaphore};
 use std::alloc::{AllocError, Global};
+use std::sync::Wait;
 use std::thread::{self, Threads};
 
 /// Why no crew worked, or its counts were lost.
@@ -36,7 +37,7 @@ impl From<AllocError> for CrewError {
 
 /// Has so many threads make so many rounds each, with passes that are made of this one and meet it
 /// again at the end. It gives the sums of what they counted.
-pub fn together<R: Threads + Sync>(
+pub fn together<R: Threads + Wait + Sync>(
     rt: &R,
     alloc: Global,
     semaphore: &Semaphore,
@@ -55,7 +56,7 @@ pub fn together<R: Threads + Sync>(
         → IsCrowded semaphore.now threads (pass_view pass.old) (pass_view pass.new) }
 {
     let passes = hire(alloc, semaphore, pass, threads)?;
-    let worked = thread::map_vec(rt, passes, &|pass| work_hired(semaphore, pass, rounds))?;
+    let worked = thread::map_vec(rt, passes, &|pass| work_hired(rt, semaphore, pass, rounds))?;
     Ok(dismiss(semaphore, pass, worked, rounds))
 }
 
@@ -118,14 +119,19 @@ fn take_back(semaphore: &Semaphore, pass: &mut SemPass, passes: Vec<SemPass>)
 }
 
 // What each thread does.
-fn work_hired(semaphore: &Semaphore, pass: SemPass, rounds: u32) -> (SemPass, Counts)
+fn work_hired<R: Wait>(
+    rt: &R,
+    semaphore: &Semaphore,
+    pass: SemPass,
+    rounds: u32,
+) -> (SemPass, Counts)
     requires hired { IsHired semaphore.now pass }
     requires new { IsNew pass }
     ensures told { HasToldAll result.0 result.1 }
     ensures hired { IsHired semaphore.now result.0 }
     ensures rounds { CountsRounds rounds result.1 }
 {
-    work(semaphore, pass, rounds)
+    work(rt, semaphore, pass, rounds)
 }
 
 // Takes the passes in again, and adds up what was counted with them.

@@ -12,6 +12,7 @@ use crate::counts::{Counts, count};
 use crate::giving::finish_all;
 use cqs_rule::Wait;
 use cqs_semaphore::{CancelAnswer, Permit, Polled, SemPass, Semaphore};
+use std::sync::Wait as MayWait;
 use std::thread;
 
 // A worker looks so often at a wait before it gives it up.
@@ -45,7 +46,8 @@ fn look_on(semaphore: &Semaphore, pass: &mut SemPass, wait: Wait, counts: &mut C
 }
 
 /// Looks at the wait for a while, and then gives it up.
-pub fn wait_for(
+pub fn wait_for<R: MayWait>(
+    rt: &R,
     semaphore: &Semaphore,
     pass: &mut SemPass,
     wait: Wait,
@@ -60,12 +62,13 @@ pub fn wait_for(
 {
     match look_on(semaphore, pass, wait, counts) {
         Polled::Granted(permit) => Some(permit),
-        Polled::Pending(wait) => give_up(semaphore, pass, wait, counts),
+        Polled::Pending(wait) => give_up(rt, semaphore, pass, wait, counts),
     }
 }
 
 /// Gives the wait up. There is a permit where it had come before.
-pub fn give_up(
+pub fn give_up<R: MayWait>(
+    rt: &R,
     semaphore: &Semaphore,
     pass: &mut SemPass,
     wait: Wait,
@@ -86,7 +89,7 @@ pub fn give_up(
         }
         CancelAnswer::Cancelled(Some(under)) => {
             count(&mut counts.cancels.owing);
-            finish_all(semaphore, pass, under, counts);
+            finish_all(rt, semaphore, pass, under, counts);
             None
         }
         CancelAnswer::TooLate(permit) => {

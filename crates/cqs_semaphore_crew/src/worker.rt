@@ -9,7 +9,9 @@ ghost use Rattle.cqs_semaphore.specs.Callers.{held_by, IsAtRest, HasEnded};
 use crate::counts::{Acquires, Counts, count, none_yet};
 use crate::giving::give_back;
 use crate::waiting::{give_up, wait_for};
+use cqs_rule::AcquireError;
 use cqs_semaphore::{Acquired, Permit, SemPass, Semaphore, Tried};
+use std::sync::Wait;
 use std::thread;
 
 // While a worker has a permit, other threads may run so often.
@@ -17,8 +19,8 @@ const PAUSES: u32 = 16;
 
 /// Makes so many rounds: in each the worker acquires and gives back, and tries and gives back. It
 /// gives every third of its waits up at once, in every other hundred of rounds all of them, and
-/// each other one if some looks don't find it served.
-pub fn work(semaphore: &Semaphore, pass: SemPass, rounds: u32) -> (SemPass, Counts)
+/// each other one if some looks don't find it served. An acquire that is crowded is one of a round.
+pub fn work<R: Wait>(rt: &R, semaphore: &Semaphore, pass: SemPass, rounds: u32) -> (SemPass, Counts)
     requires rest { IsAtRest semaphore.now (held_by pass) pass }
     ensures rest { IsAtRest semaphore.now (held_by pass) result.0 }
     ensures worked { HasWorked (pass_view pass) (pass_view result.0) result.1 }
@@ -28,29 +30,37 @@ pub fn work(semaphore: &Semaphore, pass: SemPass, rounds: u32) -> (SemPass, Coun
     let mut counts = none_yet();
     for round in 0..rounds {
         let hasty = round % 3 == 0 || round / 100 % 2 == 1;
-        acquire_once(semaphore, &mut pass, hasty, &mut counts);
-        try_once(semaphore, &mut pass, &mut counts);
+        acquire_once(rt, semaphore, &mut pass, hasty, &mut counts);
+        try_once(rt, semaphore, &mut pass, &mut counts);
     }
     (pass, counts)
 }
 
 // Acquires, and gives back what came, after a while.
-fn acquire_once(semaphore: &Semaphore, pass: &mut SemPass, hasty: bool, counts: &mut Counts)
+fn acquire_once<R: Wait>(
+    rt: &R,
+    semaphore: &Semaphore,
+    pass: &mut SemPass,
+    hasty: bool,
+    counts: &mut Counts,
+)
     requires rest { IsAtRest semaphore.now (held_by pass.old) pass.old }
     ensures rest { IsAtRest semaphore.now (held_by pass.old) pass.new }
     ensures adds { Adds 0 0 (pass_view pass.old) counts.old (pass_view pass.new) counts.new }
     ensures calls { CountsCalls 1 0 counts.old counts.new }
 {
-    if let Some(permit) = seek(semaphore, pass, hasty, counts) {
+    if let Some(permit) = seek(rt, semaphore, pass, hasty, counts) {
         for _ in 0..PAUSES {
             thread::yield_now();
         }
-        give_back(semaphore, pass, permit, counts);
+        give_back(rt, semaphore, pass, permit, counts);
     }
 }
 
-// Acquires: a permit, or none where the wait was given up, or where no further number may be drawn.
-fn seek(
+// Acquires: a permit, or none where the wait was given up, where no further number may be drawn, or
+// where no slot was free.
+fn seek<R: Wait>(
+    rt: &R,
     semaphore: &Semaphore,
     pass: &mut SemPass,
     hasty: bool,
@@ -69,12 +79,16 @@ fn seek(
         Ok(Acquired::Later(wait)) => {
             count(&mut counts.acquires.waited);
             if hasty {
-                return give_up(semaphore, pass, wait, counts);
+                return give_up(rt, semaphore, pass, wait, counts);
             }
-            wait_for(semaphore, pass, wait, counts)
+            wait_for(rt, semaphore, pass, wait, counts)
         }
-        Err(_) => {
+        Err(AcquireError::Worn) => {
             count(&mut counts.acquires.worn);
+            None
+        }
+        Err(AcquireError::Crowded) => {
+            count(&mut counts.acquires.crowded);
             None
         }
     }
@@ -91,7 +105,7 @@ fn count_now(permit: &Permit, acquires: &mut Acquires)
 }
 
 // Tries, and gives back what came.
-fn try_once(semaphore: &Semaphore, pass: &mut SemPass, counts: &mut Counts)
+fn try_once<R: Wait>(rt: &R, semaphore: &Semaphore, pass: &mut SemPass, counts: &mut Counts)
     requires rest { IsAtRest semaphore.now (held_by pass.old) pass.old }
     ensures rest { IsAtRest semaphore.now (held_by pass.old) pass.new }
     ensures adds { Adds 0 0 (pass_view pass.old) counts.old (pass_view pass.new) counts.new }
@@ -100,7 +114,7 @@ fn try_once(semaphore: &Semaphore, pass: &mut SemPass, counts: &mut Counts)
     match semaphore.try_acquire(pass) {
         Tried::Got(permit) => {
             count(&mut counts.tries.got);
-            give_back(semaphore, pass, permit, counts);
+            give_back(rt, semaphore, pass, permit, counts);
         }
         Tried::Busy => count(&mut counts.tries.busy),
         Tried::Contended { .. } => count(&mut counts.tries.contended),

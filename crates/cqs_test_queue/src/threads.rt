@@ -10,12 +10,14 @@ use cqs_semaphore::{Acquired, SemPass, Semaphore};
 use cqs_semaphore_crew::{Counts, together};
 use std::alloc::Global;
 use std::process::Abort;
+use std::sync::Wait;
 use std::test::Fail;
 use std::thread::Threads;
 
+// As few slots as so many passes may have: they are used again.
 const CONFIG: Config = Config {
     passes: 9,
-    limit: 1 << 16,
+    limit: 1 << 36,
     slots: 20,
 };
 
@@ -35,7 +37,7 @@ fn crews_of_two_four_and_eight(rt: HostRuntime) -> Result<(), Fail> {
 }
 
 // A crew of so many threads on a semaphore of so many permits.
-fn crew<R: Threads + Sync + Abort>(
+fn crew<R: Threads + Wait + Sync + Abort>(
     rt: &R,
     alloc: Global,
     threads: u32,

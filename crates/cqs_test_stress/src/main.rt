@@ -11,6 +11,7 @@ use cqs_semaphore_crew::{Counts, CrewError, together};
 use std::env;
 use std::process::ExitCode;
 use std::rt::Clock;
+use std::sync::Wait;
 use std::thread::Threads;
 use std::time::Instant;
 
@@ -72,11 +73,15 @@ struct Worked {
     counts: Counts,
 }
 
-/// Has a crew work on a semaphore of its own.
-fn crew<R: Threads + Sync + AllocGlobal>(rt: &R, command: Command) -> anyhow::Result<Worked> {
+/// Has a crew work on a semaphore of its own, with the fewest slots that so many passes may have:
+/// they are used again and again.
+fn crew<R: Threads + Wait + Sync + AllocGlobal>(
+    rt: &R,
+    command: Command,
+) -> anyhow::Result<Worked> {
     let config = Config {
         passes: MOST_PASSES,
-        limit: 1 << 20,
+        limit: 1 << 36,
         slots: 2 * MOST_PASSES + 2,
     };
     let Ok((semaphore, mut pass)) = Semaphore::new(rt.alloc(), command.permits, config) else {
@@ -104,7 +109,7 @@ fn crew<R: Threads + Sync + AllocGlobal>(rt: &R, command: Command) -> anyhow::Re
 }
 
 /// Has one crew work, and prints what came of it.
-fn run<R: Threads + Sync + Clock + Print + AllocGlobal>(
+fn run<R: Threads + Wait + Sync + Clock + Print + AllocGlobal>(
     rt: &R,
     command: Command,
 ) -> anyhow::Result<()> {
@@ -130,7 +135,7 @@ fn run<R: Threads + Sync + Clock + Print + AllocGlobal>(
 
 /// Has crews work one after the other until the time is over, and prints how many did, and how many
 /// of them left more than one pass, or another state than they should.
-fn run_for<R: Threads + Sync + Clock + Print + AllocGlobal>(
+fn run_for<R: Threads + Wait + Sync + Clock + Print + AllocGlobal>(
     rt: &R,
     command: Command,
     seconds: u64,

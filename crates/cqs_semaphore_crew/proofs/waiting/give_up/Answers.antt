@@ -13,7 +13,7 @@ use Rattle.cqs_semaphore_crew.proofs.waiting.give_up.Goals as goal
 
 -- a permit was left to the wait, and is on its way
 pub finish_all-requires : goal.finish_all-requires
-finish_all-requires c =
+finish_all-requires g c =
     let k = (place_of c.args.wait).index in
     let v = pass_view c.args.pass.now in
     let w = pass_view c.cancel.new.pass in
@@ -32,7 +32,7 @@ finish_all-requires c =
 
 -- nothing is owed, and the one wait has ended
 pub returns-in-Cancelled-None : goal.returns-in-Cancelled-None
-returns-in-Cancelled-None c =
+returns-in-Cancelled-None g c =
     let k = (place_of c.args.wait).index in
     let v = pass_view c.args.pass.now in
     let w = pass_view c.cancel.new.pass in
@@ -52,7 +52,7 @@ returns-in-Cancelled-None c =
     }
 
 pub returns-in-Cancelled-Some-clause-ended : goal.returns-in-Cancelled-Some-clause-ended
-returns-in-Cancelled-Some-clause-ended c =
+returns-in-Cancelled-Some-clause-ended g c =
     let k = (place_of c.args.wait).index in
     let v = pass_view c.args.pass.now in
     let w = pass_view c.cancel.new.pass in
@@ -69,7 +69,7 @@ returns-in-Cancelled-Some-clause-ended c =
     }
 
 pub returns-in-Cancelled-Some-clause-adds : goal.returns-in-Cancelled-Some-clause-adds
-returns-in-Cancelled-Some-clause-adds c =
+returns-in-Cancelled-Some-clause-adds g c =
     let k = (place_of c.args.wait).index in
     let v = pass_view c.args.pass.now in
     let w = pass_view c.cancel.new.pass in
@@ -80,7 +80,7 @@ returns-in-Cancelled-Some-clause-adds c =
     c.finish_all.ensures.adds
 
 pub returns-in-Cancelled-Some-clause-by : goal.returns-in-Cancelled-Some-clause-by
-returns-in-Cancelled-Some-clause-by c =
+returns-in-Cancelled-Some-clause-by g c =
     let k = (place_of c.args.wait).index in
     let v = pass_view c.args.pass.now in
     let w = pass_view c.cancel.new.pass in
@@ -93,7 +93,7 @@ returns-in-Cancelled-Some-clause-by c =
 
 -- the one wait has its permit
 pub returns-in-TooLate-clause-ended : goal.returns-in-TooLate-clause-ended
-returns-in-TooLate-clause-ended c =
+returns-in-TooLate-clause-ended g c =
     let k = (place_of c.args.wait).index in
     let told = rw c.in-TooLate.is at c.cancel.ensures.cancelled in
     let rests = told.2.3 in
@@ -105,14 +105,14 @@ returns-in-TooLate-clause-ended c =
     }
 
 pub returns-in-TooLate-clause-adds : goal.returns-in-TooLate-clause-adds
-returns-in-TooLate-clause-adds c =
+returns-in-TooLate-clause-adds g c =
     let told = rw c.in-TooLate.is at c.cancel.ensures.cancelled in
     adds-late _ _ _ _ _ _ told.1 c.count-in-TooLate.ensures
 
 pub returns-in-TooLate-clause-by : goal.returns-in-TooLate-clause-by
-returns-in-TooLate-clause-by c =
+returns-in-TooLate-clause-by g c =
     let told = rw c.in-TooLate.is at c.cancel.ensures.cancelled in course-call semaphore_object _ _ _ _ _ told.1
 
 pub returns-in-Cancelled-Some-clause-keeps : goal.returns-in-Cancelled-Some-clause-keeps
-returns-in-Cancelled-Some-clause-keeps c =
+returns-in-Cancelled-Some-clause-keeps g c =
     record { acquires = c.finish_all.ensures.keeps.acquires; tries = c.finish_all.ensures.keeps.tries }

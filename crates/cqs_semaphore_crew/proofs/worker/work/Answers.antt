@@ -4,14 +4,14 @@ use Rattle.cqs_semaphore_crew.proofs.Telling.{adds-none, adds-then}
 use Rattle.cqs_semaphore_crew.proofs.worker.work.Goals as goal
 
 pub loop-round-init : goal.loop-round-init
-loop-round-init c = record {
+loop-round-init g c = record {
   rest = c.requires.rest;
   adds = adds-none 0 _ _ c.requires.rest.belongs.live.legal;
   calls = c.none_yet-counts.ensures.none;
 }
 
 pub loop-round-preserved : goal.loop-round-preserved
-loop-round-preserved c =
+loop-round-preserved g c =
     let so_far = c.loop-round.invariant in
     let rest = c.try_once.ensures.rest in
     let both = calls-then 1 0 0 1 _ _ _ c.acquire_once.ensures.calls c.try_once.ensures.calls in
@@ -34,7 +34,7 @@ loop-round-preserved c =
     }
 
 pub returns-clause-worked : goal.returns-clause-worked
-returns-clause-worked c =
+returns-clause-worked g c =
     let adds = c.loop-round.invariant.adds in record {
       own = adds.own;
       course = adds.course;

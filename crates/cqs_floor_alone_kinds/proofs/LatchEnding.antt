@@ -31,10 +31,6 @@ module _ {T : Type 0} where
     waits = hands.waits_are ∙ e.waits;
   }
 
-  pub ending-further : (owed again : Owed) (u w : View LatchEntry T) → HasFinished owed u (Err again) w
-      → owed_reached owed < owed_reached again
-  ending-further owed again u w (ends, rule, (hands, grown, more)) = grown
-
   pub ending-ends : (owed : Owed) (v u w : View LatchEntry T) → IsEnding v u → HasFinished owed u (Ok tt) w
       → w.seen ≡ u.seen ++ delivers (waiting_in u) → HasServedAll w → ServesAll v w
   ending-ends owed v u w e (ends, rule, (x, rest, z, is, all, on, woke, rests)) seen served =

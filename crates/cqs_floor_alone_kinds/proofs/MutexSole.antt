@@ -5,6 +5,7 @@ use Rattle.cqs_core.specs.declared.entries.Entry.TheVariants as entry
 use Rattle.cqs_core.specs.SemaphoreEntries.{IsFirst, object_after}
 use Rattle.cqs_core.specs.SemaphoreObject.{Semaphore, opening}
 use Rattle.cqs_plan.specs.declared.plans.kind.Kind.TheVariants as kind
+use Rattle.cqs_rule_laws.specs.Ample.{IsAmple}
 use Rattle.cqs_rule_laws.specs.declared.config.Config.{Config}
 use Rattle.cqs_rule_laws.specs.declared.config.Place.{Place}
 use Rattle.cqs_rule.specs.declared.queue.tokens.Under.{Under as Token}
@@ -21,6 +22,7 @@ use Rattle.cqs_rule.specs.Waits.{HasWait, place_of}
 use Rattle.cqs_rule_laws.proofs.Calls.{same-then}
 use Rattle.cqs_rule_laws.proofs.Places.{same-swapped}
 use Rattle.cqs_semaphore.specs.declared.answers.CancelAnswer.TheVariants as cancel
+use Rattle.cqs_semaphore.specs.declared.answers.Released.{Released}
 use Rattle.cqs_semaphore.specs.declared.answers.Released.TheVariants.{Freed, Sent, Under}
 use Rattle.cqs_semaphore.specs.Alone.{IsFirstOf}
 use Rattle.cqs_rule_laws.specs.CallRule.{IsReady}
@@ -36,6 +38,7 @@ use Rattle.cqs_mutex.specs.Calls.{HasLocked, HasPolled, HasUnlocked}
 use Rattle.cqs_mutex.specs.Calls.{HasLeft as LeftBy}
 use Rattle.cqs_mutex.specs.Guards.{permit_of, wait_in}
 use Rattle.cqs_mutex.specs.Mutexes.{Belongs, Opens}
+use Rattle.cqs_mutex.specs.Values.{LaidValue}
 use Rattle.cqs_floor_alone_kinds.specs.declared.mutex_sole.MutexSole.{MutexSole}
 use Rattle.cqs_floor_alone_kinds.specs.Soles.{Acquires, Cancels, IsLawful, IsOpened, Polls, Releases}
 use Rattle.cqs_floor_alone_kinds.specs.SoleQueue.{IsStill, mutex_pass, news, sole_mutex}
@@ -152,37 +155,45 @@ module _ (x y : MutexSole) (mine : Belongs y.mutex y.pass)
       (waits-at w (wait_in wait) (subst (λ z. HasWait z (wait_in wait)) (sym locked.value) locked.acquired.2))
       (waits-next v locked.between (wait_in wait) locked.alone) kept)
 
-  -- An unlock.
-  module _ (one_less : length y.guards.items + 1 ≡ length x.guards.items) (value : Unit {0}) where
-    pub mutex-frees : HasUnlocked value v Freed w → Releases sole_mutex x None y
-    mutex-frees gone =
-        let b = gone.between in
-        one-frees mutex_pass x y mine capacity one_less
-        (λ alone zero. moved-before v b _ gone.laid w _ (frees-comes b w gone.called gone.releases
-        (moved-alone v b _ gone.laid alone) (moved-zero v b _ gone.laid zero)))
-        (λ alone. ap (λ (o : Semaphore). o.line) (sym (swap-plain v b _ gone.laid))
-        ∙ empty-found (plain_after b) b.number (gone.alone alone))
+  -- An unlock. In an ample table it claims nothing.
+  module _ (one_less : length y.guards.items + 1 ≡ length x.guards.items) (value : Unit {0}) (ample : IsAmple v)
+    where
+      laid-at : (released : Released) (u : View Entry (Kept (Unit {0}))) (gone : HasUnlocked value v released u)
+          → LaidValue value v gone.between
+      laid-at released u gone = subst (λ z. LaidValue value z gone.between) (gone.claims.ample ample) gone.laid
 
-    pub mutex-sent : (k : ℕ) → HasUnlocked value v (Sent k) w → Releases sole_mutex x (Some k) y
-    mutex-sent k gone =
-        let b = gone.between in
-        one-sends mutex_pass x y mine capacity one_less k
-        (λ alone zero. moved-before v b _ gone.laid w _ (sent-comes b w k gone.called gone.releases
-        (moved-alone v b _ gone.laid alone) (moved-zero v b _ gone.laid zero)))
-        (λ alone. subst (λ (o : Semaphore). IsFirst k o.line) (swap-plain v b _ gone.laid)
-        (first-found (plain_after b) b.number k (gone.alone alone)))
+      pub mutex-frees : HasUnlocked value v Freed w → Releases sole_mutex x None y
+      mutex-frees gone =
+          let b = gone.between in
+          let laid = laid-at Freed w gone in
+          one-frees mutex_pass x y mine capacity one_less
+          (λ alone zero. moved-before v b _ laid w _ (frees-comes b w gone.called gone.releases
+          (moved-alone v b _ laid alone) (moved-zero v b _ laid zero)))
+          (λ alone. ap (λ (o : Semaphore). o.line) (sym (swap-plain v b _ laid))
+          ∙ empty-found (plain_after b) b.number (gone.alone alone))
 
-    -- one whose resumption was handed back, and went on to its end
-    pub mutex-hands : (k : ℕ) (under : Token) (u : View Entry (Kept (Unit {0}))) → HasUnlocked value v (Under under) u
-        → IsFirstOf (plain_after u).line k → w.seen ≡ u.seen ++ entry.Deliver k ∷ [] → IsSame u w
-        → Rests u u.facts.has.held u.facts.waits w → Releases sole_mutex x (Some k) y
-    mutex-hands k under u gone first seen same rests =
-        let b = gone.between in
-        one-sends mutex_pass x y mine capacity one_less k
-        (λ alone zero. moved-before v b _ gone.laid w _ (hands-comes b u w k under gone.called gone.releases seen same
-        rests (moved-alone v b _ gone.laid alone) (moved-zero v b _ gone.laid zero)))
-        (λ alone. subst (λ (o : Semaphore). IsFirst k o.line) (swap-plain v b _ gone.laid)
-        (hands-first b u w k under gone.called first (moved-alone v b _ gone.laid alone)))
+      pub mutex-sent : (k : ℕ) → HasUnlocked value v (Sent k) w → Releases sole_mutex x (Some k) y
+      mutex-sent k gone =
+          let b = gone.between in
+          let laid = laid-at (Sent k) w gone in
+          one-sends mutex_pass x y mine capacity one_less k
+          (λ alone zero. moved-before v b _ laid w _ (sent-comes b w k gone.called gone.releases
+          (moved-alone v b _ laid alone) (moved-zero v b _ laid zero)))
+          (λ alone. subst (λ (o : Semaphore). IsFirst k o.line) (swap-plain v b _ laid)
+          (first-found (plain_after b) b.number k (gone.alone alone)))
+
+      -- one whose resumption was handed back, and went on to its end
+      pub mutex-hands : (k : ℕ) (under : Token) (u : View Entry (Kept (Unit {0}))) → HasUnlocked value v (Under under) u
+          → IsFirstOf (plain_after u).line k → w.seen ≡ u.seen ++ entry.Deliver k ∷ [] → IsSame u w
+          → Rests u u.facts.has.held u.facts.waits w → Releases sole_mutex x (Some k) y
+      mutex-hands k under u gone first seen same rests =
+          let b = gone.between in
+          let laid = laid-at (Under under) u gone in
+          one-sends mutex_pass x y mine capacity one_less k
+          (λ alone zero. moved-before v b _ laid w _ (hands-comes b u w k under gone.called gone.releases seen same
+          rests (moved-alone v b _ laid alone) (moved-zero v b _ laid zero)))
+          (λ alone. subst (λ (o : Semaphore). IsFirst k o.line) (swap-plain v b _ laid)
+          (hands-first b u w k under gone.called first (moved-alone v b _ laid alone)))
 
   -- The end of a wait.
   module _ (wait : LockWait) (at : Place) (is : place_of (wait_in wait) ≡ at) where

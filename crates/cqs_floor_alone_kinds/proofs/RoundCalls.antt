@@ -69,7 +69,7 @@ module _ (parties room : ℕ) (x y : RoundSole) (funded : IsFundedRound parties 
   -- the last one, which owed a rest, and served it
   pub arrives-owing : (owing : Owing) (u : View BarrierEntry (Unit {0})) → Arrives v (arrived.LastOwing owing) u
       → IsPlainArrive v (arrived.LastOwing owing) u → ServesAll u w → HasArrived x None y
-  arrives-owing owing u (ks, over, came, owes, passed, many, held, waits) begun all =
+  arrives-owing owing u (ks, came, owes, back, held, waits) begun all =
       let rule = begun.called in
       let may = first-allowed v u funded.rests.alone (entry.ArriveLast v.number) [] _ rule in
       let first = (told v u _ _ rule funded.rests.alone).seen in

@@ -49,7 +49,7 @@ module _ {T : Type 0} where
 
   pub ending-goes_on : (again : Owing) (v u w : View BarrierEntry T) → IsEnding v u → v.alone ≡ true
       → Finishes u (Err again) w → IsPlainFinish u (Err again) w → IsEnding v w
-  ending-goes_on again v u w e alone (ks, over, f, many, owes) (more, rule, line) = record {
+  ending-goes_on again v u w e alone (ks, f, back, owes) (more, rule, line) = record {
     same = same-then v u w e.same rule.called.same;
     served = e.served ++ more;
     seen = seen-on v u w e alone more rule;
@@ -60,7 +60,7 @@ module _ {T : Type 0} where
 
   pub ending-ends : (v u w : View BarrierEntry T) → IsEnding v u → v.alone ≡ true
       → Finishes u (Ok tt) w → IsPlainFinish u (Ok tt) w → ServesAll v w
-  ending-ends v u w e alone (ks, over, f, ready) (rule, none) = record {
+  ending-ends v u w e alone (ks, over, f, passed, ready) (rule, none) = record {
     same = same-then v u w e.same rule.called.same;
     seen = seen-on v u w e alone (waiting_in u) rule ∙ ap (λ l. v.seen ++ delivers l) (sym e.line);
     none = none;

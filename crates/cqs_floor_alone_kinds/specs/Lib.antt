@@ -13,3 +13,4 @@ pub mod AnySoles
 pub mod SoleCore
 pub mod SoleQueue
 pub mod SoleRunning
+pub mod PoolKinds

@@ -19,6 +19,7 @@ use Rattle.cqs_floor_common.specs.HeldElements.{all_held, elements_held}
 use Rattle.cqs_floor_alone_kinds.specs.declared.pool_sole.PoolSole.{PoolSole}
 use Rattle.cqs_floor_alone_kinds.specs.Stores.{Store}
 use Rattle.cqs_floor_alone_kinds.specs.Waits.{WaitsAt}
+pub use Rattle.cqs_floor_alone_kinds.specs.PoolKinds.{IsPool}
 
 -- an entry is news, but for a look that found nothing new
 abbrev pub is_news : PoolEntry → Bool
@@ -33,14 +34,6 @@ is_news (entry.LookGranted c k e) = true
 -- a history without looks that found nothing new
 abbrev pub news : List PoolEntry → List PoolEntry
 news history = filter is_news history
-
-abbrev pub IsPool : Option Kind → Type 0
-IsPool (Some (kind.Pool elements)) = Unit {0}
-IsPool (Some (kind.Semaphore permits)) = ⊥
-IsPool (Some kind.Mutex) = ⊥
-IsPool (Some (kind.Latch count)) = ⊥
-IsPool (Some (kind.Rounds parties rounds)) = ⊥
-IsPool None = ⊥
 
 -- The pass is alone, and nobody else has made a call; it is between two calls, which it makes as
 -- pass 0. The numbers that it may still draw are below the limit, and each of its waits was drawn.

@@ -5,12 +5,9 @@ ghost use Rattle.cqs_latch.specs.Calls.{IsMine};
 ghost use Rattle.cqs_latch.specs.LatchMade.{mode_of};
 ghost use Rattle.cqs_latch.specs.Owed.{HasOwed};
 ghost use Rattle.cqs_plan.specs.declared.plans.kind.Kind.TheVariants as kind;
-ghost use Rattle.cqs_rule.specs.Passes.{client_of, pass_view};
+ghost use Rattle.cqs_rule.specs.Passes.{ample_of, client_of, pass_view};
 ghost use Rattle.cqs_rule_laws.specs.declared.config.CancelMode.TheVariants.{Smart};
 ghost use Rattle.cqs_floor_alone_kinds.specs.LatchEnds.{ServesAll};
-ghost use Rattle.cqs_floor_alone_kinds.specs.Stores as stores;
-ghost use Rattle.cqs_floor_alone_kinds.specs.Stores.{IsOpened};
-ghost use Rattle.cqs_floor_alone_kinds.specs.SoleLatch.{store_latch};
 
 use crate::sole_resource::{Left, Looked};
 use cqs_core::Memory;
@@ -27,9 +24,14 @@ pub struct LatchSole {
     pub pass: LatchPass,
     pub count: u32,
     pub line: u32,
+    // Its table has slots for all segments that can be wanted, so none of its calls is crowded.
+    pub ghost ample_is: { ample_of latch.queue ≡ true },
 }
 
 impl LatchSole {
+    ghost use Rattle.cqs_floor_alone_kinds.specs.Stores.{IsOpened};
+    ghost use Rattle.cqs_floor_alone_kinds.specs.SoleLatch.{store_latch};
+
     /// A latch that is to be counted down so often, and room for so many waits.
     pub fn open(alloc: Global, count: u32, waits: u32) -> Result<Self, Memory>
         requires some { 0 < count }
@@ -42,7 +44,7 @@ impl LatchSole {
             limit: u64::from(waits) + 1,
             slots: waits / 32 + 8,
         };
-        let (latch, pass) = match Latch::new(alloc, count, CancelMode::Smart, config) {
+        let (latch, pass) = match Latch::ample(alloc, count, CancelMode::Smart, config) {
             Ok(made) => made,
             Err(MakeError::Memory) => return Err(Memory),
             Err(MakeError::BadConfig) => unreachable!(),
@@ -57,6 +59,9 @@ impl LatchSole {
 }
 
 impl LatchSole {
+    ghost use Rattle.cqs_floor_alone_kinds.specs.Stores as stores;
+    ghost use Rattle.cqs_floor_alone_kinds.specs.SoleLatch.{store_latch};
+
     /// Counts the latch down. The last count opens it, for all who wait.
     pub fn down(&mut self) -> FloorDown
         requires { stores.CanCount store_latch self.old }
@@ -144,6 +149,7 @@ impl LatchSole {
 #[cold]
 #[inline(never)]
 fn finish(latch: &Latch, pass: &mut LatchPass, owed: Owed)
+    requires ample { ample_of latch.now.queue ≡ true }
     requires mine { IsMine latch.now pass.old }
     requires owes { HasOwed (pass_view pass.old).facts owed }
     requires alone { (pass_view pass.old).alone ≡ true }

@@ -6,13 +6,11 @@ ghost use Rattle.cqs_core.specs.SemaphoreShown.{free_of, short_of, state_of};
 ghost use Rattle.cqs_mutex.specs.Mutexes.{Belongs};
 ghost use Rattle.cqs_plan.specs.declared.plans.kind.Kind.TheVariants as kind;
 ghost use Rattle.cqs_rule.specs.Owed.{HasUnder};
-ghost use Rattle.cqs_rule.specs.Passes.{pass_view};
+ghost use Rattle.cqs_rule.specs.Passes.{ample_of, pass_view};
 ghost use Rattle.cqs_rule_laws.specs.Views.{IsSame};
 ghost use Rattle.cqs_semaphore.specs.Alone.{IsFirstOf};
 ghost use Rattle.cqs_rule_laws.specs.CallRule.{IsReady};
 ghost use Rattle.cqs_semaphore.specs.Calls.{CallRule, Rests, plain_after};
-ghost use Rattle.cqs_floor_alone_kinds.specs.Soles.{IsOpened};
-ghost use Rattle.cqs_floor_alone_kinds.specs.SoleQueue.{sole_mutex};
 
 use crate::sole::{SoleSemaphore, Stand, stand_in};
 use cqs_core::Memory;
@@ -27,9 +25,14 @@ pub struct MutexSole {
     pub mutex: Mutex<()>,
     pub pass: MutexPass<()>,
     pub guards: Vec<Guard<()>>,
+    // Its table has slots for all segments that can be wanted, so none of its calls is crowded.
+    pub ghost ample_is: { ample_of mutex.semaphore.queue ≡ true },
 }
 
 impl MutexSole {
+    ghost use Rattle.cqs_floor_alone_kinds.specs.Soles.{IsOpened};
+    ghost use Rattle.cqs_floor_alone_kinds.specs.SoleQueue.{sole_mutex};
+
     /// A mutex that is free, with room for so many takes.
     #[tactic(auto, using(crate::proofs::MutexSole::mutex_opened))]
     pub fn open(alloc: Global, takes: u32) -> Result<Self, Memory>
@@ -41,7 +44,7 @@ impl MutexSole {
             limit: u64::from(takes) + 1,
             slots: takes / 32 + 8,
         };
-        let (mutex, pass) = match Mutex::new(alloc, (), config) {
+        let (mutex, pass) = match Mutex::ample(alloc, (), config) {
             Ok(made) => made,
             Err((_, MakeError::Memory)) => return Err(Memory),
             Err((_, MakeError::BadConfig)) => unreachable!(),
@@ -134,6 +137,7 @@ fn stand_of(mutex: &Mutex<()>, pass: &mut MutexPass<()>) -> Stand
 #[cold]
 #[inline(never)]
 fn send(mutex: &Mutex<()>, pass: &mut MutexPass<()>, under: Under) -> u64
+    requires ample { ample_of mutex.now.semaphore.queue ≡ true }
     requires belongs { Belongs mutex.now pass.old }
     requires owes { HasUnder (pass_view pass.old).facts under }
     requires further { (pass_view pass.old).facts.has.further ≡ 0 }

@@ -9,11 +9,9 @@ ghost use Rattle.cqs_rule_laws.specs.CallRule.{IsReady};
 ghost use Rattle.cqs_pool.specs.Calls.{IsMine, plain_after};
 ghost use Rattle.cqs_pool.specs.Elements.{number_of};
 ghost use Rattle.cqs_rule.specs.Owed.{HasUnder, under_payload};
-ghost use Rattle.cqs_rule.specs.Passes.{pass_view};
+ghost use Rattle.cqs_rule.specs.Passes.{ample_of, pass_view};
 ghost use Rattle.cqs_floor_alone_kinds.specs.PoolEnds.{HasEnded, HasPlaced};
-ghost use Rattle.cqs_floor_alone_kinds.specs.Stores as stores;
-ghost use Rattle.cqs_floor_alone_kinds.specs.Stores.{IsOpened};
-ghost use Rattle.cqs_floor_alone_kinds.specs.SolePool.{IsPool, store_pool};
+ghost use Rattle.cqs_floor_alone_kinds.specs.PoolKinds.{IsPool};
 
 use crate::sole_resource::{Left, Looked, Taken};
 use cqs_core::Memory;
@@ -32,9 +30,14 @@ pub struct PoolSole {
     pub held: Vec<HeldElement>,
     pub free: u32,
     pub line: u32,
+    // Its table has slots for all segments that can be wanted, so none of its calls is crowded.
+    pub ghost ample_is: { ample_of pool.queue ≡ true },
 }
 
 impl PoolSole {
+    ghost use Rattle.cqs_floor_alone_kinds.specs.Stores.{IsOpened};
+    ghost use Rattle.cqs_floor_alone_kinds.specs.SolePool.{store_pool};
+
     /// A pool with so many elements, all of them free, and room for so many takes.
     pub fn open(alloc: Global, elements: u32, takes: u32) -> Result<Self, Memory>
         requires some { 0 < elements }
@@ -47,7 +50,7 @@ impl PoolSole {
             limit: u64::from(takes) + 1,
             slots: takes / 32 + elements / 32 + 8,
         };
-        let (pool, pass) = match Pool::new(alloc, elements, config) {
+        let (pool, pass) = match Pool::ample(alloc, elements, config) {
             Ok(made) => made,
             Err(MakeError::Memory) => return Err(Memory),
             Err(MakeError::BadConfig) => unreachable!(),
@@ -63,6 +66,9 @@ impl PoolSole {
 }
 
 impl PoolSole {
+    ghost use Rattle.cqs_floor_alone_kinds.specs.Stores as stores;
+    ghost use Rattle.cqs_floor_alone_kinds.specs.SolePool.{store_pool};
+
     /// The job takes what is free first, or else waits at the end of the line.
     pub fn take(&mut self, job: u32) -> Taken
         requires { stores.CanAcquire store_pool job self.old }
@@ -165,6 +171,7 @@ fn elements(kind: Kind) -> u32
 
 /// Puts an element back, and answers the number of the wait that it was sent to, if somebody waits.
 fn put(pool: &Pool, pass: &mut PoolPass, element: Element) -> Option<u64>
+    requires ample { ample_of pool.now.queue ≡ true }
     requires mine { IsMine pool.now pass.old }
     requires ready { IsReady (pass_view pass.old).facts }
     requires has { IsInHand (number_of element) (pass_view pass.old).facts }
@@ -187,6 +194,7 @@ fn put(pool: &Pool, pass: &mut PoolPass, element: Element) -> Option<u64>
 #[cold]
 #[inline(never)]
 fn finish(pool: &Pool, pass: &mut PoolPass, under: Under) -> Option<u64>
+    requires ample { ample_of pool.now.queue ≡ true }
     requires mine { IsMine pool.now pass.old }
     requires owes { HasUnder (pass_view pass.old).facts under }
     requires further { (pass_view pass.old).facts.has.further ≡ 0 }

@@ -5,13 +5,11 @@ ghost use Rattle.cqs_core.specs.declared.entries.Entry.TheVariants.{Deliver};
 ghost use Rattle.cqs_core.specs.SemaphoreShown.{free_of, short_of, state_of};
 ghost use Rattle.cqs_plan.specs.declared.plans.kind.Kind.TheVariants as kind;
 ghost use Rattle.cqs_rule.specs.Owed.{HasUnder};
-ghost use Rattle.cqs_rule.specs.Passes.{pass_view};
+ghost use Rattle.cqs_rule.specs.Passes.{ample_of, pass_view};
 ghost use Rattle.cqs_rule_laws.specs.Views.{IsSame};
 ghost use Rattle.cqs_semaphore.specs.Alone.{IsFirstOf};
 ghost use Rattle.cqs_rule_laws.specs.CallRule.{IsReady};
 ghost use Rattle.cqs_semaphore.specs.Calls.{CallRule, IsMine, Rests, plain_after};
-ghost use Rattle.cqs_floor_alone_kinds.specs.Soles.{IsOpened};
-ghost use Rattle.cqs_floor_alone_kinds.specs.SoleQueue.{sole_queue};
 
 use crate::sole::{SoleSemaphore, Stand, stand_in};
 use cqs_core::Memory;
@@ -25,9 +23,14 @@ pub struct QueueSole {
     pub semaphore: Semaphore,
     pub pass: SemPass,
     pub permits: Vec<Permit>,
+    // Its table has slots for all segments that can be wanted, so none of its calls is crowded.
+    pub ghost ample_is: { ample_of semaphore.queue ≡ true },
 }
 
 impl QueueSole {
+    ghost use Rattle.cqs_floor_alone_kinds.specs.Soles.{IsOpened};
+    ghost use Rattle.cqs_floor_alone_kinds.specs.SoleQueue.{sole_queue};
+
     /// A semaphore with so many permits, all of them free, and room for so many takes.
     pub fn open(alloc: Global, permits: u32, takes: u32) -> Result<Self, Memory>
         requires some { 0 < permits }
@@ -40,7 +43,7 @@ impl QueueSole {
             limit: u64::from(takes) + 1,
             slots: takes / 32 + 8,
         };
-        let (semaphore, pass) = match Semaphore::new(alloc, permits, config) {
+        let (semaphore, pass) = match Semaphore::ample(alloc, permits, config) {
             Ok(made) => made,
             Err(MakeError::Memory) => return Err(Memory),
             Err(MakeError::BadConfig) => unreachable!(),
@@ -135,6 +138,7 @@ fn stand_of(semaphore: &Semaphore, pass: &mut SemPass) -> Stand
 #[cold]
 #[inline(never)]
 fn send(semaphore: &Semaphore, pass: &mut SemPass, under: Under) -> u64
+    requires ample { ample_of semaphore.now.queue ≡ true }
     requires mine { IsMine semaphore.now pass.old }
     requires owes { HasUnder (pass_view pass.old).facts under }
     requires further { (pass_view pass.old).facts.has.further ≡ 0 }

@@ -3,9 +3,8 @@
 ghost use Rattle.std.specs.Prelude.{◌≡◌, ◌<◌, ◌≤◌, IfOk, true};
 ghost use Rattle.cqs_barrier.specs.Calls.{IsMine};
 ghost use Rattle.cqs_barrier.specs.Resuming.{HasOwing};
-ghost use Rattle.cqs_rule.specs.Passes.{pass_view};
+ghost use Rattle.cqs_rule.specs.Passes.{ample_of, pass_view};
 ghost use Rattle.cqs_floor_alone_kinds.specs.RoundEnds.{ServesAll};
-ghost use Rattle.cqs_floor_alone_kinds.specs.SoleRound.{CanArrive, CanLeave, HasArrived, HasLeft, HasLooked, IsOpenedRound};
 
 use crate::sole_resource::{Left, Looked};
 use cqs_barrier::{Arrived, Barrier, BarrierPass, Owing, PartyLeft, PartyPolled};
@@ -18,9 +17,13 @@ use std::alloc::Global;
 pub struct RoundSole {
     pub barrier: Barrier,
     pub pass: BarrierPass,
+    // Its table has slots for all segments that can be wanted, so none of its calls is crowded.
+    pub ghost ample_is: { ample_of barrier.queue ≡ true },
 }
 
 impl RoundSole {
+    ghost use Rattle.cqs_floor_alone_kinds.specs.SoleRound.{CanArrive, CanLeave, HasArrived, HasLeft, HasLooked, IsOpenedRound};
+
     /// A round of so many parties, and room for so many arrivals.
     pub fn open(alloc: Global, parties: u32, arrivals: u32) -> Result<Self, Memory>
         requires some { 0 < parties }
@@ -33,7 +36,7 @@ impl RoundSole {
             limit: u64::from(arrivals) + 1,
             slots: arrivals / 32 + 8,
         };
-        match Barrier::new(alloc, parties, config) {
+        match Barrier::ample(alloc, parties, config) {
             Ok((barrier, pass)) => Ok(RoundSole { barrier, pass }),
             Err(MakeError::Memory) => Err(Memory),
             Err(MakeError::BadConfig) => unreachable!(),
@@ -87,6 +90,7 @@ impl RoundSole {
 #[cold]
 #[inline(never)]
 fn finish(barrier: &Barrier, pass: &mut BarrierPass, owing: Owing)
+    requires ample { ample_of barrier.now.queue ≡ true }
     requires mine { IsMine barrier.now pass.old }
     requires owes { HasOwing (pass_view pass.old).facts owing }
     requires alone { (pass_view pass.old).alone ≡ true }

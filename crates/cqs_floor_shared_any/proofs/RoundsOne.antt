@@ -286,7 +286,7 @@ module _ (x y : SharedRound) (same_one : y.barrier ≡ x.barrier) (mine : IsMine
     -- one that owed a rest, and finished it
     pub comes-owing : (owing : Owing) (u : View BarrierEntry (Unit {0})) → Arrives v (arrived.LastOwing owing) u
         → Went barrier_object u [] w → Rests u u.facts.has.held u.facts.waits w → HasCome x (came.Now 0) y
-    comes-owing owing u (ks, over, came, owes, passed, many, held, waits) after rests = (
+    comes-owing owing u (ks, came, owes, back, held, waits) after rests = (
       refl,
       record {
         drew = None;

@@ -4,3 +4,4 @@ pub mod LatchAccounts
 pub mod LatchShares
 pub mod AnyShares
 pub mod OnlyPasses
+pub mod RoundLeaves

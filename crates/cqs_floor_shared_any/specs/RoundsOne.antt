@@ -28,6 +28,7 @@ use Rattle.cqs_floor_shared_kinds.specs.declared.resource.Came.TheVariants as ca
 use Rattle.cqs_floor_shared_kinds.specs.Accounts.{over}
 use Rattle.cqs_floor_shared_kinds.specs.Families.{queue_name}
 use Rattle.cqs_floor_shared_kinds.specs.Runs.{WaitsAt, Went}
+pub use Rattle.cqs_floor_shared_any.specs.RoundLeaves.{HasNumbers, LeavesAt}
 
 -- a caller was the last to arrive
 abbrev pub lasts : BarrierEntry → ℕ
@@ -133,20 +134,6 @@ HasLeft wait x (Late e) y =
     (e ≡ 0) × (stays : Bool)
     × Goes (party_left (view_of x).number wait.index (Late e) stays) (view_of x).facts.has.held
     (without wait.index (view_of x).facts.waits) x y
-
--- The same of the pass alone, while it goes on with a leaving of the wait k.
-pub record HasNumbers {T : Type 0} (v : View BarrierEntry T) : Type 0 where
-  pub first : v.own ≡ v.number ∷ drop 1 v.own
-  pub distinct : IsDistinct v.own
-
-abbrev pub LeavesAt : ℕ → View BarrierEntry (Unit {0}) → FloorLeave → View BarrierEntry (Unit {0})
-    → Type 0
-LeavesAt k v Gone w =
-    Went barrier_object v (entry.Withdraw v.number k ∷ []) w
-    × Rests v (v.facts.has.held + 1) (without k v.facts.waits) w
-LeavesAt k v (Late e) w =
-    (e ≡ 0) × (stays : Bool) × Went barrier_object v (party_left v.number k (Late e) stays) w
-    × Rests v v.facts.has.held (without k v.facts.waits) w
 
 -- as it is made: nothing has happened
 pub record IsOpenedRound (parties workers room : ℕ) (x : SharedRound) : Type 0 where

@@ -56,7 +56,7 @@ impl Tenant {
             limit: u64::from(waits) + 1,
             slots: waits / 32 + 8,
         };
-        let (semaphore, pass) = match Semaphore::new(alloc, permits, config) {
+        let (semaphore, pass) = match Semaphore::ample(alloc, permits, config) {
             Ok(made) => made,
             Err(MakeError::Memory) => return Err(Memory),
             Err(MakeError::BadConfig) => unreachable!(),

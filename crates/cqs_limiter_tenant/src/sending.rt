@@ -3,7 +3,7 @@
 ghost use Rattle.std.specs.Prelude.{◌≡◌, ◌++◌, [], ◌∷◌, true};
 ghost use Rattle.cqs_core.specs.declared.entries.Entry.TheVariants.{Deliver};
 ghost use Rattle.cqs_rule.specs.Owed.{HasUnder};
-ghost use Rattle.cqs_rule.specs.Passes.{pass_view};
+ghost use Rattle.cqs_rule.specs.Passes.{ample_of, pass_view};
 ghost use Rattle.cqs_rule_laws.specs.Views.{IsSame};
 ghost use Rattle.cqs_semaphore.specs.Alone.{IsFirstOf};
 ghost use Rattle.cqs_semaphore.specs.Calls.{IsMine, Rests, plain_after};
@@ -15,6 +15,7 @@ use cqs_semaphore::{Released, SemPass, Semaphore};
 #[cold]
 #[inline(never)]
 pub(super) fn send(semaphore: &Semaphore, pass: &mut SemPass, under: Under) -> u64
+    requires ample { ample_of semaphore.now.queue ≡ true }
     requires mine { IsMine semaphore.now pass.old }
     requires owes { HasUnder (pass_view pass.old).facts under }
     requires further { (pass_view pass.old).facts.has.further ≡ 0 }

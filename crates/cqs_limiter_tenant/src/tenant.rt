@@ -1,7 +1,7 @@
 //! A tenant, and its seats.
 
-ghost use Rattle.std.specs.Prelude.{◌≡◌};
-ghost use Rattle.cqs_limiter_tenant.specs.Seats.{IsKnown, IsSeatedSo, seat_of};
+ghost use Rattle.std.specs.Prelude.{◌≡◌, true};
+ghost use Rattle.cqs_rule.specs.Passes.{ample_of};
 
 use cqs_rule::Place;
 use cqs_semaphore::{SemPass, Semaphore};
@@ -23,9 +23,13 @@ pub struct Tenant {
     pub(super) semaphore: Semaphore,
     pub(super) pass: SemPass,
     pub(super) seats: BTreeMap<u32, Seat>,
+    // Its table has slots for all segments that can be wanted, so none of its calls is crowded.
+    pub ghost ample_is: { ample_of semaphore.queue ≡ true },
 }
 
 impl Tenant {
+    ghost use Rattle.cqs_limiter_tenant.specs.Seats.{IsKnown, IsSeatedSo, seat_of};
+
     /// Where the client is.
     pub(super) fn seat(&self, client: u32) -> Seat
         ensures { result ≡ seat_of self.now client }

@@ -1,12 +1,13 @@
 //! A latch of the running queue, and the pass of one worker, as a resource of its floor.
 
-ghost use Rattle.std.specs.Prelude.{◌≡◌, [], Some};
+ghost use Rattle.std.specs.Prelude.{◌≡◌, true, [], Some};
 ghost use Rattle.cqs_latch.specs.Calls.{IsMine, Rests};
 ghost use Rattle.cqs_latch.specs.Latch.{latch_object};
 ghost use Rattle.cqs_latch.specs.Owed.{HasOwed};
 ghost use Rattle.cqs_plan.specs.Floor.{IsLatch, size_of};
-ghost use Rattle.cqs_rule.specs.Passes.{pass_view};
+ghost use Rattle.cqs_rule.specs.Passes.{ample_of, pass_view};
 ghost use Rattle.cqs_floor_shared_kinds.specs.Runs.{Went};
+ghost use Rattle.std.specs.Arc.{arc_value};
 
 use cqs_core::Memory;
 use cqs_floor_shared::SharedGive;
@@ -23,6 +24,8 @@ pub struct SharedLatch {
     pub latch: Arc<Latch>,
     pub pass: LatchPass,
     pub downs: u32,
+    // Its table has slots for all segments that can be wanted, so none of its calls is crowded.
+    pub ghost ample_is: { ample_of (arc_value latch).queue ≡ true },
 }
 
 impl SharedLatch {
@@ -45,7 +48,7 @@ impl SharedLatch {
             limit: u64::from(waits) + 1,
             slots: waits / 32 + 72,
         };
-        let (latch, pass) = match Latch::new(alloc, counts(kind), CancelMode::Smart, config) {
+        let (latch, pass) = match Latch::ample(alloc, counts(kind), CancelMode::Smart, config) {
             Ok(made) => made,
             Err(MakeError::Memory) => return Err(Memory),
             Err(MakeError::BadConfig) => unreachable!(),

@@ -1,13 +1,14 @@
 //! One round of a barrier of the running queue, and the pass of one worker, as a floor sees it.
 
-ghost use Rattle.std.specs.Prelude.{◌≡◌, ◌<◌, ◌≤◌, [], IfOk};
+ghost use Rattle.std.specs.Prelude.{◌≡◌, true, ◌<◌, ◌≤◌, [], IfOk};
 ghost use Rattle.cqs_barrier.specs.Barrier.{barrier_object};
 ghost use Rattle.cqs_barrier.specs.Calls.{IsMine, Rests};
 ghost use Rattle.cqs_barrier.specs.Leaving.{HasLeaving, leaving_at};
 ghost use Rattle.cqs_barrier.specs.Resuming.{HasOwing};
-ghost use Rattle.cqs_rule.specs.Passes.{pass_view};
-ghost use Rattle.cqs_floor_shared_any.specs.RoundsOne.{CanCome, CanGive, CanLeave, CanTakeIn, HasCome, HasLeft, HasLooked, HasNumbers, HasSplitOff, HasTakenIn, IsOpenedRound, LeavesAt};
+ghost use Rattle.cqs_rule.specs.Passes.{ample_of, pass_view};
+ghost use Rattle.cqs_floor_shared_any.specs.RoundLeaves.{HasNumbers, LeavesAt};
 ghost use Rattle.cqs_floor_shared_kinds.specs.Runs.{Went};
+ghost use Rattle.std.specs.Arc.{arc_value};
 
 use cqs_barrier::{Arrived, Barrier, BarrierPass, Leaving, Owing, PartyLeft, PartyPolled};
 use cqs_core::Memory;
@@ -24,9 +25,13 @@ pub struct SharedRound {
     pub barrier: Arc<Barrier>,
     pub pass: BarrierPass,
     pub over: bool,
+    // Its table has slots for all segments that can be wanted, so none of its calls is crowded.
+    pub ghost ample_is: { ample_of (arc_value barrier).queue ≡ true },
 }
 
 impl SharedRound {
+    ghost use Rattle.cqs_floor_shared_any.specs.RoundsOne.{CanCome, CanGive, CanLeave, CanTakeIn, HasCome, HasLeft, HasLooked, HasSplitOff, HasTakenIn, IsOpenedRound};
+
     /// A round of so many parties, for so many workers, with room for so many arrivals.
     pub fn open(alloc: Global, parties: u32, workers: u32, arrivals: u32) -> Result<Self, Memory>
         requires some { 0 < parties }
@@ -41,7 +46,7 @@ impl SharedRound {
             limit: u64::from(arrivals) + 1,
             slots: arrivals / 32 + 72,
         };
-        let (barrier, pass) = match Barrier::new(alloc, parties, config) {
+        let (barrier, pass) = match Barrier::ample(alloc, parties, config) {
             Ok(made) => made,
             Err(MakeError::Memory) => return Err(Memory),
             Err(MakeError::BadConfig) => unreachable!(),

@@ -1,13 +1,14 @@
 //! A semaphore of the running queue, and the pass of one worker, as a resource of its floor.
 
-ghost use Rattle.std.specs.Prelude.{◌≡◌, [], Some};
+ghost use Rattle.std.specs.Prelude.{◌≡◌, true, [], Some};
 ghost use Rattle.cqs_plan.specs.Floor.{size_of};
 ghost use Rattle.cqs_rule.specs.Owed.{HasUnder};
-ghost use Rattle.cqs_rule.specs.Passes.{pass_view};
+ghost use Rattle.cqs_rule.specs.Passes.{ample_of, pass_view};
 ghost use Rattle.cqs_semaphore_client.specs.Semaphore.{semaphore_object};
 ghost use Rattle.cqs_semaphore.specs.Calls.{IsMine, Rests};
 ghost use Rattle.cqs_floor_shared_kinds.specs.PermitRuns.{IsOfPermits, TellsSent};
 ghost use Rattle.cqs_floor_shared_kinds.specs.Runs.{Went};
+ghost use Rattle.std.specs.Arc.{arc_value};
 
 use crate::resource::Came;
 use cqs_core::Memory;
@@ -24,6 +25,8 @@ use std::sync::{Arc, Wait};
 pub struct SharedPermits {
     pub semaphore: Arc<Semaphore>,
     pub pass: SemPass,
+    // Its table has slots for all segments that can be wanted, so none of its calls is crowded.
+    pub ghost ample_is: { ample_of (arc_value semaphore).queue ≡ true },
 }
 
 impl SharedPermits {
@@ -47,7 +50,7 @@ impl SharedPermits {
             limit: u64::from(takes) + 1,
             slots: takes / 32 + 72,
         };
-        let (semaphore, pass) = match Semaphore::new(alloc, permits(kind), config) {
+        let (semaphore, pass) = match Semaphore::ample(alloc, permits(kind), config) {
             Ok(made) => made,
             Err(MakeError::Memory) => return Err(Memory),
             Err(MakeError::BadConfig) => unreachable!(),

@@ -1,13 +1,14 @@
 //! A pool of the running queue, and the pass of one worker, as a resource of its floor.
 
-ghost use Rattle.std.specs.Prelude.{◌≡◌, [], Some};
+ghost use Rattle.std.specs.Prelude.{◌≡◌, true, [], Some};
 ghost use Rattle.cqs_plan.specs.Floor.{size_of};
 ghost use Rattle.cqs_pool.specs.Calls.{IsMine, Rests};
 ghost use Rattle.cqs_pool.specs.Pool.{pool_object};
 ghost use Rattle.cqs_rule.specs.Owed.{HasUnder, under_payload};
-ghost use Rattle.cqs_rule.specs.Passes.{pass_view};
+ghost use Rattle.cqs_rule.specs.Passes.{ample_of, pass_view};
 ghost use Rattle.cqs_floor_shared_kinds.specs.PoolRuns.{IsPool, TellsArrived, as_give};
 ghost use Rattle.cqs_floor_shared_kinds.specs.Runs.{Went};
+ghost use Rattle.std.specs.Arc.{arc_value};
 
 use crate::resource::Came;
 use cqs_core::Memory;
@@ -26,6 +27,8 @@ pub struct SharedPool {
     pub pool: Arc<Pool>,
     pub pass: PoolPass,
     pub held: Vec<HeldElement>,
+    // Its table has slots for all segments that can be wanted, so none of its calls is crowded.
+    pub ghost ample_is: { ample_of (arc_value pool).queue ≡ true },
 }
 
 /// Where an element arrived.
@@ -58,7 +61,7 @@ impl SharedPool {
             limit: u64::from(takes) + 1,
             slots: takes / 32 + elements / 32 + 72,
         };
-        let (pool, pass) = match Pool::new(alloc, elements, config) {
+        let (pool, pass) = match Pool::ample(alloc, elements, config) {
             Ok(made) => made,
             Err(MakeError::Memory) => return Err(Memory),
             Err(MakeError::BadConfig) => unreachable!(),

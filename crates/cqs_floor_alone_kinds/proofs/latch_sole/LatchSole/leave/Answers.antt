@@ -51,7 +51,11 @@ returns-in-Gone c =
     let x = c.args.self.now in
     let token = c.wait_of-token.result in
     let k = (place_of token).index in
-    let y : LatchSole = record x { pass = c.cancel.new.pass; line = x.line - 1 } in
+    let y : LatchSole = record x {
+      pass = c.cancel.new.pass;
+      line = x.line - 1;
+      ample_is = c.self-1.given.0;
+    } in
     let v = pass_view c.wait_of-token.new.pass in
     let w = pass_view c.cancel.new.pass in
     let f =
@@ -75,7 +79,7 @@ returns-in-TooLate c =
     let x = c.args.self.now in
     let token = c.wait_of-token.result in
     let k = (place_of token).index in
-    let y : LatchSole = record x { pass = c.cancel.new.pass } in
+    let y : LatchSole = record x { pass = c.cancel.new.pass; ample_is = c.self-in-TooLate-1.given.0 } in
     let v = pass_view c.wait_of-token.new.pass in
     let w = pass_view c.cancel.new.pass in
     let f =

@@ -17,7 +17,7 @@ pub returns-in-Pending : goal.returns-in-Pending
 returns-in-Pending c =
     let x = c.args.self.now in
     let token = c.wait_of-token.result in
-    let y : LatchSole = record x { pass = c.poll.new.pass } in
+    let y : LatchSole = record x { pass = c.poll.new.pass; ample_is = c.self-1.given.0 } in
     let v = pass_view c.wait_of-token.new.pass in
     let w = pass_view c.poll.new.pass in
     let f =
@@ -39,7 +39,7 @@ pub returns-in-Through : goal.returns-in-Through
 returns-in-Through c =
     let x = c.args.self.now in
     let token = c.wait_of-token.result in
-    let y : LatchSole = record x { pass = c.poll.new.pass } in
+    let y : LatchSole = record x { pass = c.poll.new.pass; ample_is = c.self-1.given.0 } in
     let v = pass_view c.wait_of-token.new.pass in
     let w = pass_view c.poll.new.pass in
     let f =

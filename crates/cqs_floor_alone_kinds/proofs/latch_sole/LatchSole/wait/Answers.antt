@@ -24,10 +24,12 @@ returns-in-Ok-Later c =
     let plain = (rw c.in-Ok-Later.field-0-is at c.in-Ok-Later.ensures.alone) f.rests.alone in
     let waited = rw c.in-Ok-Later.field-0-is at c.in-Ok-Later.ensures.waited in
     let has = later-has _ _ f.rests.alone f.rests.number wait waited in
-    subst (λ p. Awaits store_latch c.args._job x (Some c.spend_wait.result) (record x { pass = p; line = x.line + 1 }))
+    subst (λ p. Awaits store_latch c.args._job x (Some c.spend_wait.result)
+    (record x { pass = p; line = x.line + 1; ample_is = c.self-in-Ok-Later-1.given.0 }))
     (sym c.spend_wait.ensures.same)
     (subst (λ at. Awaits store_latch c.args._job x (Some at)
-    (record x { pass = c.wait.new.pass; line = x.line + 1 })) (sym c.spend_wait.ensures.place)
+    (record x { pass = c.wait.new.pass; line = x.line + 1; ample_is = c.self-in-Ok-Later-1.given.0 }))
+    (sym c.spend_wait.ensures.place)
     (latch-joins x _ c.wait.ensures.belongs f.mode c.args._job (place_of wait)
     (waits-comes _ _ f.rests.alone f.rests.number wait waited) plain.0 plain.1
     (record { open_yet = has.open_yet; place = has.place }) refl refl))

@@ -24,7 +24,12 @@ returns-in-Ok-Later c =
     let x = c.args.self.now in
     let f = c.requires.funded in
     let how = rw c.in-Ok-Later.field-0-is at c.in-Ok-Later.ensures.arrived in
-    subst (λ p. HasArrived x (Some c.spend_wait.result) (record x { pass = p })) (sym c.spend_wait.ensures.same)
-    (subst (λ at. HasArrived x (Some at) (record x { pass = c.arrive.new.pass })) (sym c.spend_wait.ensures.place)
-    (arrives-later c.requires.parties c.requires.room x (record x { pass = c.arrive.new.pass }) f
+    subst (λ p. HasArrived x (Some c.spend_wait.result)
+    (record x { pass = p; ample_is = c.self-in-Ok-Later-1.given.0 }))
+    (sym c.spend_wait.ensures.same)
+    (subst (λ at. HasArrived x (Some at)
+    (record x { pass = c.arrive.new.pass; ample_is = c.self-in-Ok-Later-1.given.0 }))
+    (sym c.spend_wait.ensures.place)
+    (arrives-later c.requires.parties c.requires.room x
+    (record x { pass = c.arrive.new.pass; ample_is = c.self-in-Ok-Later-1.given.0 }) f
     c.arrive.ensures.belongs c.in-Ok-Later.wait how))

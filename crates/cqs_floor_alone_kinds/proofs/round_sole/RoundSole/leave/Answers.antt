@@ -22,7 +22,7 @@ pub returns-in-Withdrawn : goal.returns-in-Withdrawn
 returns-in-Withdrawn c =
     let x = c.args.self.now in
     let token = wait_in c.wait_of-token.result in
-    let y : RoundSole = record x { pass = c.cancel.new.pass } in
+    let y : RoundSole = record x { pass = c.cancel.new.pass; ample_is = c.self-1.given.0 } in
     let f = subst (λ p. IsFundedRound c.requires.parties c.requires.room (record x { pass = p }))
     (sym c.wait_of-token.ensures.same) c.requires.funded in
     let went = rw c.in-Withdrawn.is at c.cancel.ensures.left in
@@ -35,7 +35,7 @@ pub returns-in-TooLate : goal.returns-in-TooLate
 returns-in-TooLate c =
     let x = c.args.self.now in
     let token = wait_in c.wait_of-token.result in
-    let y : RoundSole = record x { pass = c.cancel.new.pass } in
+    let y : RoundSole = record x { pass = c.cancel.new.pass; ample_is = c.self-1.given.0 } in
     let f = subst (λ p. IsFundedRound c.requires.parties c.requires.room (record x { pass = p }))
     (sym c.wait_of-token.ensures.same) c.requires.funded in
     let went = rw c.in-TooLate.is at c.cancel.ensures.left in

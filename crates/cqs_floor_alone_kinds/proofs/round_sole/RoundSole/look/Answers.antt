@@ -15,7 +15,7 @@ pub returns-in-Pending : goal.returns-in-Pending
 returns-in-Pending c =
     let x = c.args.self.now in
     let token = wait_in c.wait_of-token.result in
-    let y : RoundSole = record x { pass = c.poll.new.pass } in
+    let y : RoundSole = record x { pass = c.poll.new.pass; ample_is = c.self-1.given.0 } in
     let f = subst (λ p. IsFundedRound c.requires.parties c.requires.room (record x { pass = p }))
     (sym c.wait_of-token.ensures.same) c.requires.funded in
     let called = rw c.in-Pending.is at c.poll.ensures.called in
@@ -29,7 +29,7 @@ pub returns-in-Through : goal.returns-in-Through
 returns-in-Through c =
     let x = c.args.self.now in
     let token = wait_in c.wait_of-token.result in
-    let y : RoundSole = record x { pass = c.poll.new.pass } in
+    let y : RoundSole = record x { pass = c.poll.new.pass; ample_is = c.self-1.given.0 } in
     let f = subst (λ p. IsFundedRound c.requires.parties c.requires.room (record x { pass = p }))
     (sym c.wait_of-token.ensures.same) c.requires.funded in
     let called = rw c.in-Through.is at c.poll.ensures.called in

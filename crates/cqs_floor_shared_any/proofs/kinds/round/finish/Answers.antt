@@ -21,10 +21,10 @@ loop-preserved g c =
     let how = rw c.in-Err.is at c.finish.ensures.finished in
     record {
       mine = c.finish.ensures.belongs;
-      owes = how.4;
-      went = went-then barrier_object _ _ _ [] [] l.went (silent _ _ (delivers how.0) how.2.called);
-      held = how.2.held ∙ l.held;
-      waits = how.2.waits ∙ l.waits;
+      owes = how.3;
+      went = went-then barrier_object _ _ _ [] [] l.went (silent _ _ (delivers how.0) how.1.called);
+      held = how.1.held ∙ l.held;
+      waits = how.1.waits ∙ l.waits;
     }
 
 pub returns-in-Ok-clause-went : goal.returns-in-Ok-clause-went
@@ -36,4 +36,4 @@ pub returns-in-Ok-clause-rests : goal.returns-in-Ok-clause-rests
 returns-in-Ok-clause-rests g c =
     let l = c.loop.invariant in
     let how = rw c.in-Ok.is at c.finish.ensures.finished in
-    record { ready = how.3; held_is = how.2.held ∙ l.held; waits_are = how.2.waits ∙ l.waits }
+    record { ready = how.4; held_is = how.2.held ∙ l.held; waits_are = how.2.waits ∙ l.waits }

@@ -1,4 +1,4 @@
-use Rattle.std.proofs.Common.{refl, subst, sym}
+use Rattle.std.proofs.Common.{refl, subst, sym, ap, Err}
 use Rattle.cqs_barrier.specs.Arriving.{Arrives}
 use Rattle.cqs_barrier.specs.Calls.{IsMine}
 use Rattle.cqs_barrier.specs.declared.answers.Arrived.TheVariants.{Later}
@@ -31,4 +31,4 @@ returns-in-Ok-Later g c =
 pub returns-in-Err-Worn : goal.returns-in-Err-Worn
 returns-in-Err-Worn g c =
     comes-worn c.args.self.now _ refl (rw c.deref.ensures at c.in-Err-Worn.ensures.belongs) refl c.requires
-    c.in-Err-Worn.ensures.worn
+    (c.in-Err-Worn.ensures.worn (ap Err c.in-Err-Worn.field-0-is))

@@ -1,4 +1,4 @@
-use Rattle.std.proofs.Common.{Ok, refl, sym, subst, ◌∙◌}
+use Rattle.std.proofs.Common.{Ok, refl, sym, subst, ◌∙◌, ap, Err}
 use Rattle.std.specs.Arc.{arc_value}
 use Rattle.cqs_rule.specs.Passes.{pass_view}
 use Rattle.cqs_semaphore.specs.declared.answers.Acquired.TheVariants.{Later}
@@ -40,4 +40,5 @@ returns-in-Ok-Later g c =
 pub returns-in-Err-Worn : goal.returns-in-Err-Worn
 returns-in-Err-Worn g c =
     takes-none _ _ refl (rw c.deref.ensures at c.in-Err-Worn.ensures.belongs) c.args.job
-    c.in-Err-Worn.ensures.called c.in-Err-Worn.ensures.worn c.in-Err-Worn.ensures.ready
+    c.in-Err-Worn.ensures.called (c.in-Err-Worn.ensures.worn (ap Err c.in-Err-Worn.field-0-is))
+    c.in-Err-Worn.ensures.ready

@@ -1,4 +1,4 @@
-use Rattle.std.proofs.Common.{◌<◌, vec_capacity, Ok, refl, sym, subst}
+use Rattle.std.proofs.Common.{◌<◌, vec_capacity, Ok, refl, sym, subst, ap, Err}
 use Rattle.std.specs.Arc.{arc_value}
 use Rattle.cqs_pool.specs.declared.answers.Taking.TheVariants.{Later}
 use Rattle.cqs_pool.specs.Answers.{Takes}
@@ -42,4 +42,5 @@ returns-in-Ok-Later g c =
 pub returns-in-Err-Worn : goal.returns-in-Err-Worn
 returns-in-Err-Worn g c =
     pool-takes_none _ _ refl (rw c.deref.ensures at c.in-Err-Worn.ensures.belongs) refl refl c.args.job
-    c.in-Err-Worn.ensures.called c.in-Err-Worn.ensures.worn c.in-Err-Worn.ensures.ready
+    c.in-Err-Worn.ensures.called (c.in-Err-Worn.ensures.worn (ap Err c.in-Err-Worn.field-0-is))
+    c.in-Err-Worn.ensures.ready

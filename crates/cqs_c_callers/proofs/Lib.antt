@@ -4,3 +4,4 @@ pub mod Every
 pub mod TokenSteps
 pub mod PoolKept
 pub mod NotRefused
+pub mod Refusals

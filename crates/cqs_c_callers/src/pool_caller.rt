@@ -2,7 +2,7 @@
 //! hand, and what it owes.
 
 ghost use Rattle.std.specs.Prelude.{◌≡◌, ◌≤◌, ◌<◌, ◌≢◌, All, IsSome, None, [], IfOk, OnOk, OnErr, IfErr, vec_len, vec_capacity, true, length};
-ghost use Rattle.cqs_rule.specs.Passes.{pass_view};
+ghost use Rattle.cqs_rule.specs.Passes.{ample_of, pass_view};
 ghost use Rattle.cqs_rule.specs.Waits.{place_of};
 ghost use Rattle.cqs_rule_laws.specs.CallRule.{IsReady};
 ghost use Rattle.cqs_pool.specs.Calls.{IsMine};
@@ -20,7 +20,7 @@ use crate::answers::Answer;
 use crate::tokens::take_out;
 use crate::verb::Verb;
 use cqs_pool::{Element, Placed, Pool, PoolLeft, PoolPass, PoolPolled, Taking};
-use cqs_rule::{Under, Unparked, Wait};
+use cqs_rule::{AcquireError, Under, Unparked, Wait};
 
 /// A pass, its waits and its elements, for which there is room from the start, and what it owes.
 #[derive(Drop)]
@@ -40,6 +40,7 @@ impl PoolCaller {
         elements: Vec<Element>,
     ) -> PoolCaller
         requires belongs { IsMine pool.now pass }
+        requires ample { ample_of pool.now.queue ≡ true }
         requires ready { IsReady (pass_view pass).facts }
         requires waits_for_nothing { (pass_view pass).facts.waits ≡ [] }
         requires has_nothing { (pass_view pass).facts.has.slots ≡ [] }
@@ -105,7 +106,8 @@ impl PoolCaller {
                 self.waits.push_reserved(wait);
                 Answer::Later(number)
             }
-            Err(_) => Answer::Worn,
+            Err(AcquireError::Worn) => Answer::Worn,
+            Err(AcquireError::Crowded) => unreachable!(),
         }
     }
 
@@ -294,6 +296,7 @@ impl PoolCaller {
     // Keeps the token of what is still owed.
     fn keep(&mut self, pool: &Pool<Unparked>, placed: Placed) -> Answer
         requires belongs { IsMine pool.now self.old.pass }
+        requires ample { ample_of pool.now.queue ≡ true }
         requires free { self.old.under ≡ None }
         requires owes { OwesJust (pass_view self.old.pass).facts (owed_after placed) }
         requires waits { HasTokens (λ wait. wait) (pass_view self.old.pass) self.old.waits.items }

@@ -2,7 +2,7 @@
 //! it owes.
 
 ghost use Rattle.std.specs.Prelude.{◌≡◌, ◌≤◌, ◌<◌, ◌≢◌, All, IsSome, IfSome, None, [], IfOk, OnOk, IfErr, OnErr, vec_len, vec_capacity, true, length};
-ghost use Rattle.cqs_rule.specs.Passes.{pass_view};
+ghost use Rattle.cqs_rule.specs.Passes.{ample_of, pass_view};
 ghost use Rattle.cqs_rule_laws.specs.CallRule.{IsReady};
 ghost use Rattle.cqs_semaphore.specs.Calls.{IsMine};
 ghost use Rattle.cqs_semaphore.specs.Owed.{owed_after};
@@ -17,7 +17,7 @@ ghost use Rattle.cqs_c_callers.specs.declared.verb.Verb.TheVariants as verbs;
 use crate::answers::Answer;
 use crate::places::find;
 use crate::verb::Verb;
-use cqs_rule::{Place, Under, Unparked, Wait};
+use cqs_rule::{AcquireError, Place, Under, Unparked, Wait};
 use cqs_semaphore::{Acquired, CancelAnswer, Polled, Released, SemPass, Semaphore, Tried};
 
 /// A pass, the places of its waits, for which there is room from the start, and what it owes.
@@ -36,6 +36,7 @@ impl SemaphoreCaller {
         room: Vec<Place>,
     ) -> SemaphoreCaller
         requires belongs { IsMine semaphore.now pass }
+        requires ample { ample_of semaphore.now.queue ≡ true }
         requires ready { IsReady (pass_view pass).facts }
         requires waits_for_nothing { (pass_view pass).facts.waits ≡ [] }
         requires empty { room.items ≡ [] }
@@ -91,7 +92,8 @@ impl SemaphoreCaller {
                 self.waits.push_reserved(at);
                 Answer::Later(at.index)
             }
-            Err(_) => Answer::Worn,
+            Err(AcquireError::Worn) => Answer::Worn,
+            Err(AcquireError::Crowded) => unreachable!(),
         }
     }
 
@@ -294,6 +296,7 @@ impl SemaphoreCaller {
     // Keeps the token of what is still owed.
     fn keep(&mut self, semaphore: &Semaphore<Unparked>, released: Released) -> Answer
         requires belongs { IsMine semaphore.now self.old.pass }
+        requires ample { ample_of semaphore.now.queue ≡ true }
         requires free { self.old.under ≡ None }
         requires owes { OwesJust (pass_view self.old.pass).facts (owed_after released) }
         requires waits { All (HasAt (pass_view self.old.pass)) self.old.waits.items }

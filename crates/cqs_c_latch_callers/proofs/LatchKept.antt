@@ -38,7 +38,7 @@ module _ {T : Type 0} (v w : View LatchEntry T) where
 
   refusal-waits : (drew : Option ℕ) (e : AcquireError) → Waits v drew (Err e) w → w.facts.waits ≡ v.facts.waits
   refusal-waits drew error.Worn told = told.2.waits_are
-  refusal-waits drew error.Crowded told = absurd told
+  refusal-waits drew error.Crowded told = told.2.waits_are
 
   pub refused-waits : (e : AcquireError) → HasWaited v (Err e) w → w.facts.waits ≡ v.facts.waits
   refused-waits e told = refusal-waits told.0 e told.2

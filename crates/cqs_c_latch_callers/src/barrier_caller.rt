@@ -3,7 +3,7 @@
 
 ghost use Rattle.std.specs.Prelude.{◌≡◌, ◌≤◌, ◌<◌, ◌≢◌, ◌+◌, All, IsSome, None, [], IfOk, OnOk, OnErr, IfErr, vec_len, vec_capacity, true, length};
 ghost use Rattle.cqs_rule_laws.specs.Lists.{Has};
-ghost use Rattle.cqs_rule.specs.Passes.{pass_view};
+ghost use Rattle.cqs_rule.specs.Passes.{ample_of, pass_view};
 ghost use Rattle.cqs_rule.specs.Waits.{place_of};
 ghost use Rattle.cqs_rule_laws.specs.CallRule.{IsReady};
 ghost use Rattle.cqs_barrier.specs.Calls.{IsMine};
@@ -21,7 +21,7 @@ use cqs_barrier::{
     Arrived, Barrier, BarrierPass, Leaving, Owing, PartyLeft, PartyPolled, PartyWait,
 };
 use cqs_c_callers::{Answer, Verb, take_out};
-use cqs_rule::Unparked;
+use cqs_rule::{AcquireError, Unparked};
 
 /// What a pass of a barrier may owe.
 #[derive(Drop)]
@@ -48,6 +48,7 @@ impl BarrierCaller {
         room: Vec<PartyWait>,
     ) -> BarrierCaller
         requires belongs { IsMine barrier.now pass }
+        requires ample { ample_of barrier.now.queue ≡ true }
         requires ready { IsReady (pass_view pass).facts }
         requires waits_for_nothing { (pass_view pass).facts.waits ≡ [] }
         requires empty { room.items ≡ [] }
@@ -113,7 +114,8 @@ impl BarrierCaller {
                 self.waits.push_reserved(wait);
                 Answer::Later(number)
             }
-            Err(_) => Answer::Worn,
+            Err(AcquireError::Worn) => Answer::Worn,
+            Err(AcquireError::Crowded) => unreachable!(),
         }
     }
 
@@ -259,6 +261,7 @@ impl BarrierCaller {
     // Goes on with the resumptions that the last party owes.
     fn resume(&mut self, barrier: &Barrier<Unparked>, owing: Owing) -> Answer
         requires belongs { IsMine barrier.now self.old.pass }
+        requires ample { ample_of barrier.now.queue ≡ true }
         requires free { self.old.owed ≡ None }
         requires owes { HasOwing (pass_view self.old.pass).facts owing }
         requires waits { HasTokens wait_in (pass_view self.old.pass) self.old.waits.items }
@@ -280,6 +283,7 @@ impl BarrierCaller {
     // Goes on with a leaving.
     fn leave(&mut self, barrier: &Barrier<Unparked>, leaving: Leaving) -> Answer
         requires belongs { IsMine barrier.now self.old.pass }
+        requires ample { ample_of barrier.now.queue ≡ true }
         requires free { self.old.owed ≡ None }
         requires owes { HasLeaving (pass_view self.old.pass) leaving }
         requires waits { HasTokens wait_in (pass_view self.old.pass) self.old.waits.items }

@@ -1,7 +1,7 @@
 //! What the number of a pass of a latch stands for: the pass, its waits, and what it owes.
 
 ghost use Rattle.std.specs.Prelude.{◌≡◌, ◌≤◌, ◌<◌, ◌≢◌, All, IsSome, None, [], IfOk, OnOk, OnErr, IfErr, vec_len, vec_capacity, true};
-ghost use Rattle.cqs_rule.specs.Passes.{pass_view};
+ghost use Rattle.cqs_rule.specs.Passes.{ample_of, pass_view};
 ghost use Rattle.cqs_rule.specs.Waits.{place_of};
 ghost use Rattle.cqs_rule_laws.specs.CallRule.{IsReady};
 ghost use Rattle.cqs_latch.specs.Calls.{IsMine};
@@ -13,7 +13,7 @@ ghost use Rattle.cqs_c_callers.specs.declared.verb.Verb.TheVariants as verbs;
 
 use cqs_c_callers::{Answer, Verb, take_out};
 use cqs_latch::{Down, Latch, LatchLeft, LatchPass, LatchPolled, LatchWait, Owed};
-use cqs_rule::{Unparked, Wait};
+use cqs_rule::{AcquireError, Unparked, Wait};
 
 /// A pass, its waits, for which there is room from the start, and what it owes.
 #[derive(Drop)]
@@ -27,6 +27,7 @@ impl LatchCaller {
     /// The caller of a pass that has done nothing yet, with room for its waits.
     pub fn new(latch: &Latch<Unparked>, pass: LatchPass<Unparked>, room: Vec<Wait>) -> LatchCaller
         requires belongs { IsMine latch.now pass }
+        requires ample { ample_of latch.now.queue ≡ true }
         requires ready { IsReady (pass_view pass).facts }
         requires waits_for_nothing { (pass_view pass).facts.waits ≡ [] }
         requires empty { room.items ≡ [] }
@@ -81,7 +82,8 @@ impl LatchCaller {
                 self.waits.push_reserved(wait);
                 Answer::Later(number)
             }
-            Err(_) => Answer::Worn,
+            Err(AcquireError::Worn) => Answer::Worn,
+            Err(AcquireError::Crowded) => unreachable!(),
         }
     }
 

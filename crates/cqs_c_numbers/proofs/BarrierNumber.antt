@@ -29,13 +29,13 @@ module _ {T : Type 0} where
 
   of-resumed : (x y : View BarrierEntry T) (given : Result (Unit {0}) Owing) → Finishes x given y → y.number ≡ x.number
   of-resumed x y (Ok done) h = h.2.called.called.same.number
-  of-resumed x y (Err owing) h = h.2.called.called.same.number
+  of-resumed x y (Err owing) h = h.1.called.called.same.number
 
   of-arrived : (x y : View BarrierEntry T) (given : Result Arrived AcquireError) → OnErr given (IsWorn x y)
       → IfOk given (λ arrived. Arrives x arrived y) → y.number ≡ x.number
   of-arrived x y (Err e) worn h = worn.called.called.same.number
   of-arrived x y (Ok Last) worn h = (through-waits x y h).0.number
-  of-arrived x y (Ok (LastOwing owing)) worn h = h.2.called.called.same.number
+  of-arrived x y (Ok (LastOwing owing)) worn h = h.1.called.called.same.number
   of-arrived x y (Ok (Later wait)) worn h = h.0.called.called.same.number
 
   of-finished : (owed : Option PartyOwes) (x y : View BarrierEntry T) (a : Answer)

@@ -1,7 +1,8 @@
-use Rattle.std.proofs.Common.{ap, subst, sym, ◌∙◌, inr, Ok}
+use Rattle.std.proofs.Common.{ap, subst, sym, ◌∙◌, inr, Ok, Err}
 use Rattle.cqs_barrier.specs.Arriving.{Arrives}
 use Rattle.cqs_barrier.specs.Waits.{wait_in}
 use Rattle.cqs_rule.specs.Passes.{pass_view}
+use Rattle.cqs_c_callers.proofs.Refusals.{only-worn}
 use Rattle.cqs_c_callers.specs.Tokens.{HasTokens}
 use Rattle.cqs_rule_laws.proofs.Places.{goes-same}
 use Rattle.cqs_c_latch_callers.proofs.BarrierKept.{owes-none, apart-none, through-waits, every-none, none-every, every-stays}
@@ -21,6 +22,7 @@ returns-in-Ok-Last-clause-stands c =
       owes = owes-none w _ c.if-is_some.ensures told.1.ready;
       waits = same_waits wait_in v w _ (through-waits v w told) c.requires.stands.waits;
       apart = apart-none _ _ c.if-is_some.ensures;
+      ample = c.requires.stands.ample;
       every = every-stays _ _ _ _ (through-waits v w told).1 c.requires.stands.every;
     }
 
@@ -31,10 +33,11 @@ returns-in-Ok-LastOwing-clause-stands c =
     let told = subst (λ arrived. Arrives v arrived w) c.in-Ok-LastOwing.field-0-is c.in-Ok-LastOwing.ensures.arrived in
     record {
       belongs = c.arrive.ensures.belongs;
-      owes = told.3;
-      waits = same_waits wait_in v w _ (goes-same _ _ told.2.called.called.same, told.7) c.requires.stands.waits;
+      owes = told.2;
+      waits = same_waits wait_in v w _ (goes-same _ _ told.1.called.called.same, told.5) c.requires.stands.waits;
       apart = tt;
-      every = every_same _ _ _ told.7 (none-every _ _ _ c.if-is_some.ensures c.requires.stands.every);
+      ample = c.requires.stands.ample;
+      every = every_same _ _ _ told.5 (none-every _ _ _ c.if-is_some.ensures c.requires.stands.every);
     }
 
 pub returns-in-Ok-Later-clause-stands : goal.returns-in-Ok-Later-clause-stands
@@ -50,22 +53,24 @@ returns-in-Ok-Later-clause-stands c =
           (one_more wait_in v w _ wait (goes-same _ _ told.0.called.called.same, told.2.waits_are)
           c.arrive.ensures.belongs.live.inside told.1 c.requires.stands.waits);
       apart = apart-none _ _ c.if-is_some.ensures;
+      ample = c.requires.stands.ample;
       every = every-none _ _ _ c.if-is_some.ensures
           (every_more _ _ _ _ wait _ c.push_reserved.ensures.items told.2.waits_are
           (none-every _ _ _ c.if-is_some.ensures c.requires.stands.every));
     }
 
-pub returns-in-Err-clause-stands : goal.returns-in-Err-clause-stands
-returns-in-Err-clause-stands c =
+pub returns-in-Err-Worn-clause-stands : goal.returns-in-Err-Worn-clause-stands
+returns-in-Err-Worn-clause-stands c =
     let v = pass_view c.args.self.now.pass in
     let w = pass_view c.arrive.new.pass in
-    let worn = c.in-Err.ensures.worn in
+    let worn = c.in-Err-Worn.ensures.worn (ap Err c.in-Err-Worn.field-0-is) in
     record {
       belongs = c.arrive.ensures.belongs;
       owes = owes-none w _ c.if-is_some.ensures worn.rests.ready;
       waits = same_waits wait_in v w _ (goes-same _ _ worn.called.called.same, worn.rests.waits_are)
           c.requires.stands.waits;
       apart = apart-none _ _ c.if-is_some.ensures;
+      ample = c.requires.stands.ample;
       every = every-stays _ _ _ _ worn.rests.waits_are c.requires.stands.every;
     }
 
@@ -74,7 +79,8 @@ returns-in-Ok-Last-clause-answered c =
     inr (record {
       given = c.arrive.result;
       told = ap told_arrived (sym (c.in-Ok-Last.is ∙ ap Ok c.in-Ok-Last.field-0-is));
-      worn = c.arrive.ensures.worn;
+      worn = only-worn c.arrive.result _ c.arrive.ensures.worn
+          (c.arrive.ensures.never_crowded c.requires.stands.ample);
       arrived = c.arrive.ensures.arrived;
     })
 
@@ -84,7 +90,8 @@ returns-in-Ok-LastOwing-clause-answered c =
       given = c.arrive.result;
       told = ap answer.LastOwing c.reached-reached.ensures
           ∙ ap told_arrived (sym (c.in-Ok-LastOwing.is ∙ ap Ok c.in-Ok-LastOwing.field-0-is));
-      worn = c.arrive.ensures.worn;
+      worn = only-worn c.arrive.result _ c.arrive.ensures.worn
+          (c.arrive.ensures.never_crowded c.requires.stands.ample);
       arrived = c.arrive.ensures.arrived;
     })
 
@@ -94,15 +101,17 @@ returns-in-Ok-Later-clause-answered c =
       given = c.arrive.result;
       told = ap answer.Later c.number-number.ensures
           ∙ ap told_arrived (sym (c.in-Ok-Later.is ∙ ap Ok c.in-Ok-Later.field-0-is));
-      worn = c.arrive.ensures.worn;
+      worn = only-worn c.arrive.result _ c.arrive.ensures.worn
+          (c.arrive.ensures.never_crowded c.requires.stands.ample);
       arrived = c.arrive.ensures.arrived;
     })
 
-pub returns-in-Err-clause-answered : goal.returns-in-Err-clause-answered
-returns-in-Err-clause-answered c =
+pub returns-in-Err-Worn-clause-answered : goal.returns-in-Err-Worn-clause-answered
+returns-in-Err-Worn-clause-answered c =
     inr (record {
       given = c.arrive.result;
-      told = ap told_arrived (sym c.in-Err.is);
-      worn = c.arrive.ensures.worn;
+      told = ap told_arrived (sym (c.in-Err-Worn.is ∙ ap Err c.in-Err-Worn.field-0-is));
+      worn = only-worn c.arrive.result _ c.arrive.ensures.worn
+          (c.arrive.ensures.never_crowded c.requires.stands.ample);
       arrived = c.arrive.ensures.arrived;
     })

@@ -16,9 +16,10 @@ returns-in-Ok-clause-stands c =
     let told = c.in-Ok.ensures.finished in
     record {
       belongs = c.finish.ensures.belongs;
-      owes = subst (OwesJust w) (sym c.requires.free) told.3;
+      owes = subst (OwesJust w) (sym c.requires.free) told.4;
       waits = same_waits wait_in v w _ (goes-same _ _ told.2.called.called.same, told.2.waits) c.requires.waits;
       apart = subst (λ o. StayApart o c.args.self.now.waits.items) (sym c.requires.free) tt;
+      ample = c.requires.ample;
       every = subst (λ o. AreEvery o c.args.self.now.waits.items w.facts.waits) (sym c.requires.free)
           (every_same _ _ _ told.2.waits c.requires.every);
     }
@@ -30,10 +31,11 @@ returns-in-Err-clause-stands c =
     let told = c.in-Err.ensures.finished in
     record {
       belongs = c.finish.ensures.belongs;
-      owes = told.4;
-      waits = same_waits wait_in v w _ (goes-same _ _ told.2.called.called.same, told.2.waits) c.requires.waits;
+      owes = told.3;
+      waits = same_waits wait_in v w _ (goes-same _ _ told.1.called.called.same, told.1.waits) c.requires.waits;
       apart = tt;
-      every = every_same _ _ _ told.2.waits c.requires.every;
+      ample = c.requires.ample;
+      every = every_same _ _ _ told.1.waits c.requires.every;
     }
 
 pub returns-in-Ok-clause-resumed : goal.returns-in-Ok-clause-resumed

@@ -15,6 +15,7 @@ returns-in-Ok-Left-clause-stands c = record {
       (subst (λ down. IsReadyAfter down (pass_view c.count_down.new.pass).facts) c.in-Ok-Left.field-0-is
       c.in-Ok-Left.ensures.ready);
   waits = tokens_stay the_wait _ _ _ c.count_down.ensures.keeps c.requires.stands.waits;
+  ample = c.requires.stands.ample;
   every = every_same _ _ _ (counted-waits _ _ _ c.in-Ok-Left.ensures.counted) c.requires.stands.every;
 }
 
@@ -25,6 +26,7 @@ returns-in-Ok-Last-clause-stands c = record {
       (subst (λ down. IsReadyAfter down (pass_view c.count_down.new.pass).facts) c.in-Ok-Last.field-0-is
       c.in-Ok-Last.ensures.ready);
   waits = tokens_stay the_wait _ _ _ c.count_down.ensures.keeps c.requires.stands.waits;
+  ample = c.requires.stands.ample;
   every = every_same _ _ _ (counted-waits _ _ _ c.in-Ok-Last.ensures.counted) c.requires.stands.every;
 }
 
@@ -34,6 +36,7 @@ returns-in-Ok-LastOwing-clause-stands c = record {
   owes = subst (λ down. IsReadyAfter down (pass_view c.count_down.new.pass).facts) c.in-Ok-LastOwing.field-0-is
       c.in-Ok-LastOwing.ensures.ready;
   waits = tokens_stay the_wait _ _ _ c.count_down.ensures.keeps c.requires.stands.waits;
+  ample = c.requires.stands.ample;
   every = every_same _ _ _ (counted-waits _ _ _ c.in-Ok-LastOwing.ensures.counted) c.requires.stands.every;
 }
 
@@ -44,6 +47,7 @@ returns-in-Ok-Already-clause-stands c = record {
       (subst (λ down. IsReadyAfter down (pass_view c.count_down.new.pass).facts) c.in-Ok-Already.field-0-is
       c.in-Ok-Already.ensures.ready);
   waits = tokens_stay the_wait _ _ _ c.count_down.ensures.keeps c.requires.stands.waits;
+  ample = c.requires.stands.ample;
   every = every_same _ _ _ (counted-waits _ _ _ c.in-Ok-Already.ensures.counted) c.requires.stands.every;
 }
 

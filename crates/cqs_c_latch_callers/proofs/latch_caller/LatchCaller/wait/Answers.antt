@@ -1,5 +1,6 @@
-use Rattle.std.proofs.Common.{◌∙◌, ap, subst, sym, Ok, inr}
+use Rattle.std.proofs.Common.{◌∙◌, ap, subst, sym, Ok, inr, Err}
 use Rattle.cqs_latch.specs.Answers.{HasWaited}
+use Rattle.cqs_rule_laws.specs.declared.config.AcquireError.TheVariants.{Worn}
 use Rattle.cqs_rule.specs.Passes.{pass_view}
 use Rattle.cqs_rule.specs.Waits.{place_of}
 use Rattle.cqs_c_callers.specs.Tokens.{HasTokens}
@@ -15,6 +16,7 @@ returns-in-Ok-Passed-clause-stands c = record {
   belongs = c.wait.ensures.belongs;
   owes = owes-none _ _ c.if-is_some.ensures c.wait.ensures.ready;
   waits = tokens_stay the_wait _ _ _ c.wait.ensures.keeps c.requires.stands.waits;
+  ample = c.requires.stands.ample;
   every = every_same _ _ _
       (passed-waits (pass_view c.args.self.now.pass) (pass_view c.wait.new.pass)
       (subst (λ answer. HasWaited (pass_view c.args.self.now.pass) answer (pass_view c.wait.new.pass))
@@ -37,17 +39,20 @@ returns-in-Ok-Later-clause-stands c =
       owes = owes-none _ _ c.if-is_some.ensures c.wait.ensures.ready;
       waits = subst (HasTokens the_wait w) (sym c.push_reserved.ensures.items)
           (tokens_more the_wait w _ wait told.2.3 others (tokens_stay the_wait v w _ c.wait.ensures.keeps old));
+      ample = c.requires.stands.ample;
       every = every_more _ _ _ _ wait _ c.push_reserved.ensures.items told.2.4.waits_are c.requires.stands.every;
     }
 
-pub returns-in-Err-clause-stands : goal.returns-in-Err-clause-stands
-returns-in-Err-clause-stands c = record {
+pub returns-in-Err-Worn-clause-stands : goal.returns-in-Err-Worn-clause-stands
+returns-in-Err-Worn-clause-stands c = record {
   belongs = c.wait.ensures.belongs;
   owes = owes-none _ _ c.if-is_some.ensures c.wait.ensures.ready;
   waits = tokens_stay the_wait _ _ _ c.wait.ensures.keeps c.requires.stands.waits;
+  ample = c.requires.stands.ample;
   every = every_same _ _ _
-      (refused-waits (pass_view c.args.self.now.pass) (pass_view c.wait.new.pass) _
-      (subst (λ answer. HasWaited (pass_view c.args.self.now.pass) answer (pass_view c.wait.new.pass)) c.in-Err.is
+      (refused-waits (pass_view c.args.self.now.pass) (pass_view c.wait.new.pass) Worn
+      (subst (λ answer. HasWaited (pass_view c.args.self.now.pass) answer (pass_view c.wait.new.pass))
+      (c.in-Err-Worn.is ∙ ap Err c.in-Err-Worn.field-0-is)
       c.wait.ensures.waited))
       c.requires.stands.every;
 }
@@ -69,6 +74,10 @@ returns-in-Ok-Later-clause-answered c =
       waited = c.wait.ensures.waited;
     })
 
-pub returns-in-Err-clause-answered : goal.returns-in-Err-clause-answered
-returns-in-Err-clause-answered c =
-    inr (record { given = c.wait.result; told = ap told_waited (sym c.in-Err.is); waited = c.wait.ensures.waited })
+pub returns-in-Err-Worn-clause-answered : goal.returns-in-Err-Worn-clause-answered
+returns-in-Err-Worn-clause-answered c =
+    inr (record {
+      given = c.wait.result;
+      told = ap told_waited (sym (c.in-Err-Worn.is ∙ ap Err c.in-Err-Worn.field-0-is));
+      waited = c.wait.ensures.waited;
+    })

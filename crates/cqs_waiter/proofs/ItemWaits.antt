@@ -1,9 +1,7 @@
 -- A take is what a poll begins with that has no wait yet, and with an item the pass has its element in hand.
 use Rattle.std.proofs.Common.{ℕ, List, ◌∷◌, None, Result, Ok, Err, refl, sym, subst, inl}
-use Rattle.std.specs.Prelude.{IsErrOf}
 use Rattle.cqs_pool_object.specs.declared.entries.PoolEntry.{PoolEntry}
 use Rattle.cqs_rule_laws.specs.declared.config.AcquireError.{AcquireError}
-use Rattle.cqs_rule_laws.specs.declared.config.AcquireError.TheVariants.{Worn, Crowded}
 use Rattle.cqs_rule_laws.specs.declared.carries.Kept.{Kept}
 use Rattle.cqs_rule_laws.specs.declared.view.View.{View}
 use Rattle.cqs_rule_laws.specs.Lists.{Has}
@@ -16,11 +14,10 @@ use Rattle.cqs_waiter.specs.Takes.{ItemBegins}
 
 module _ {T : Type 0} where
   pub take_begins : (v w : View PoolEntry (Kept T)) (answer : Result (ItemTaking T) AcquireError)
-      → HasTaken v answer w → TakenLeaves v answer w → (IsErrOf answer Crowded → ⊥) → ItemBegins v None answer w
-  take_begins v w (Ok (Took item)) took leaves never = (took, leaves)
-  take_begins v w (Ok (Later wait)) took leaves never = (took, leaves)
-  take_begins v w (Err Worn) took leaves never = (refl, (took, leaves))
-  take_begins v w (Err Crowded) took leaves never = absurd (never refl)
+      → HasTaken v answer w → TakenLeaves v answer w → ItemBegins v None answer w
+  take_begins v w (Ok (Took item)) took leaves = (took, leaves)
+  take_begins v w (Ok (Later wait)) took leaves = (took, leaves)
+  take_begins v w (Err e) took leaves = (took, leaves)
 
   pub in-hand : (e : ℕ) (elements waits : List ℕ) (v w : View PoolEntry (Kept T)) → Rests v (e ∷ elements) waits w
       → IsInHand e w.facts

@@ -1,9 +1,7 @@
 -- A lock is what a poll begins with that has no wait yet.
-use Rattle.std.proofs.Common.{None, Result, Ok, Err, refl}
-use Rattle.std.specs.Prelude.{IsErrOf}
+use Rattle.std.proofs.Common.{None, Result, Ok, Err}
 use Rattle.cqs_core.specs.declared.entries.Entry.{Entry}
 use Rattle.cqs_rule_laws.specs.declared.config.AcquireError.{AcquireError}
-use Rattle.cqs_rule_laws.specs.declared.config.AcquireError.TheVariants.{Worn, Crowded}
 use Rattle.cqs_rule_laws.specs.declared.carries.Kept.{Kept}
 use Rattle.cqs_rule_laws.specs.declared.view.View.{View}
 use Rattle.cqs_mutex.specs.declared.answers.Locked.{Locked}
@@ -13,8 +11,7 @@ use Rattle.cqs_waiter.specs.Locks.{LockBegins}
 
 module _ {T : Type 0} where
   pub lock_begins : (v w : View Entry (Kept T)) (answer : Result (Locked T) AcquireError) → HasLocked v answer w
-      → LockedHolds answer w → (IsErrOf answer Crowded → ⊥) → LockBegins v None answer w
-  lock_begins v w (Ok (Now guard)) locked holds never = (locked, holds)
-  lock_begins v w (Ok (Later wait)) locked holds never = (locked, holds)
-  lock_begins v w (Err Worn) locked holds never = (refl, (locked, holds))
-  lock_begins v w (Err Crowded) locked holds never = absurd (never refl)
+      → LockedHolds answer w → LockBegins v None answer w
+  lock_begins v w (Ok (Now guard)) locked holds = (locked, holds)
+  lock_begins v w (Ok (Later wait)) locked holds = (locked, holds)
+  lock_begins v w (Err e) locked holds = (locked, holds)

@@ -2,7 +2,6 @@
 -- What a call tells, each kind of waiter says.
 use Rattle.std.specs.Prelude.{◌≡◌, ◌⊎◌, ℕ, zero, suc, Option, Some, None, Result, Ok, Err}
 use Rattle.cqs_rule_laws.specs.declared.config.AcquireError.{AcquireError}
-use Rattle.cqs_rule_laws.specs.declared.config.AcquireError.TheVariants.{Worn}
 
 -- What the calls of one who waits tell of its pass before and after (V), of the token of a wait (W)
 -- and of what is waited for (X): all that the contract of the call says.
@@ -31,12 +30,12 @@ module _ {V W X : Type 0} (calls : WaiterCalls V W X) where
     pub served : calls.serves last before it w
 
   -- What came of a call that asks, or of the wait that it had got before. Only a call that asks is
-  -- refused, and only as worn.
+  -- refused.
   abbrev pub Arrives : V → Option W → Result X AcquireError → V → Type 0
   Arrives v None (Ok it) w =
       calls.at_once v it w
       ⊎ ((wait : W) × (u : V) × calls.waits v wait u × ComesBy wait u it w)
-  Arrives v None (Err e) w = (e ≡ Worn) × calls.refuses v e w
+  Arrives v None (Err e) w = calls.refuses v e w
   Arrives v (Some wait) (Ok it) w = ComesBy wait v it w
   Arrives v (Some wait) (Err e) w = ⊥
 
@@ -51,7 +50,7 @@ module _ {V W X : Type 0} (calls : WaiterCalls V W X) where
   BeginsToWait v (Some before) wait w = (wait ≡ before) × (w ≡ v)
 
   abbrev pub BeginsRefused : V → Option W → AcquireError → V → Type 0
-  BeginsRefused v None e w = (e ≡ Worn) × calls.refuses v e w
+  BeginsRefused v None e w = calls.refuses v e w
   BeginsRefused v (Some wait) e w = ⊥
 
   -- What a poll found that is pending: it began with a wait, and its look found nothing new.

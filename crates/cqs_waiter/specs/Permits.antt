@@ -1,8 +1,9 @@
 -- How a permit came to a caller who acquired, and looked at its wait until it was served: what the
 -- semaphore's own calls gave, one after the other.
-use Rattle.std.specs.Prelude.{◌≡◌, true, [], Option, Result, Ok, Err, IfOk, OnOk, OnErr}
+use Rattle.std.specs.Prelude.{◌≡◌, true, [], Option, Result, Ok, Err, IfOk, OnOk, IsErrOf}
 use Rattle.cqs_core.specs.declared.entries.Entry.{Entry}
 use Rattle.cqs_rule_laws.specs.declared.config.AcquireError.{AcquireError}
+use Rattle.cqs_rule_laws.specs.declared.config.AcquireError.TheVariants as refused
 use Rattle.cqs_rule.specs.declared.queue.tokens.Wait.{Wait}
 use Rattle.cqs_rule_laws.specs.declared.view.View.{View}
 use Rattle.cqs_rule.specs.Waits.{place_of}
@@ -13,7 +14,7 @@ use Rattle.cqs_semaphore.specs.declared.answers.Permit.{Permit}
 use Rattle.cqs_semaphore.specs.declared.answers.Polled.{Polled}
 use Rattle.cqs_semaphore.specs.declared.answers.Polled.TheVariants.{Granted, Pending}
 use Rattle.cqs_semaphore.specs.Alone.{HandsNone, IsPlainAcquire, IsPlainCancel, IsPlainPoll, HasNoneOnWay}
-use Rattle.cqs_semaphore.specs.Answers.{Acquires, IsBelow, IsPolled, IsWorn}
+use Rattle.cqs_semaphore.specs.Answers.{Acquires, IsBelow, IsCrowded, IsPolled, IsWorn}
 use Rattle.cqs_semaphore.specs.Calls.{CallRule}
 use Rattle.cqs_semaphore.specs.Entries.{acquired_entries, acquired_further, polled_entries}
 use Rattle.cqs_semaphore.specs.Steps.{HasCancelled}
@@ -24,7 +25,8 @@ module _ {T : Type 0} where
   pub record HasAcquired (v : View Entry T) (answer : Result Acquired AcquireError)
       (w : View Entry T) : Type 0 where
     pub called : CallRule v (acquired_entries v.number answer) (acquired_further answer) w
-    pub worn : OnErr answer (IsWorn v w)
+    pub worn : IsErrOf answer refused.Worn → IsWorn v w
+    pub crowded : IsErrOf answer refused.Crowded → IsCrowded v w
     pub below : OnOk answer (IsBelow v w)
     pub acquired : IfOk answer (λ acquired. Acquires v acquired w)
     pub alone : v.alone ≡ true → IfOk answer (λ acquired. IsPlainAcquire v acquired)

@@ -8,21 +8,21 @@ use Rattle.cqs_waiter.proofs.blocking.acquire_wait.Goals as goal
 pub returns-in-Ok-Now-clause-arrives : goal.returns-in-Ok-Now-clause-arrives
 returns-in-Ok-Now-clause-arrives g c =
     let e = c.acquire.ensures in
-    let begins = acquire_begins _ _ c.acquire.result e.called e.worn e.never_crowded e.below e.acquired e.alone in
+    let begins = acquire_begins _ _ c.acquire.result e.called e.worn e.crowded e.below e.acquired e.alone in
     begun-arrives permit_calls (pass_view c.args.pass.now) (pass_view c.acquire.new.pass) None c.in-Ok-Now.permit
     (rw (c.in-Ok-Now.is, c.in-Ok-Now.field-0-is) at begins)
 
 pub returns-in-Err-clause-arrives : goal.returns-in-Err-clause-arrives
 returns-in-Err-clause-arrives g c =
     let e = c.acquire.ensures in
-    let begins = acquire_begins _ _ c.acquire.result e.called e.worn e.never_crowded e.below e.acquired e.alone in
+    let begins = acquire_begins _ _ c.acquire.result e.called e.worn e.crowded e.below e.acquired e.alone in
     refused-arrives permit_calls (pass_view c.args.pass.now) (pass_view c.acquire.new.pass) None c.in-Err.refused
     (rw c.in-Err.is at begins)
 
 pub loop-init : goal.loop-init
 loop-init g c =
     let e = c.acquire.ensures in
-    let begins = acquire_begins _ _ c.acquire.result e.called e.worn e.never_crowded e.below e.acquired e.alone in
+    let begins = acquire_begins _ _ c.acquire.result e.called e.worn e.crowded e.below e.acquired e.alone in
     let begun = rw (c.in-Ok-Later.is, c.in-Ok-Later.field-0-is) at begins in record {
       belongs = e.belongs;
       ready = e.ready;

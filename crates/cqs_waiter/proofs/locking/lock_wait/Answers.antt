@@ -8,21 +8,21 @@ use Rattle.cqs_waiter.proofs.locking.lock_wait.Goals as goal
 pub returns-in-Ok-Now-clause-arrives : goal.returns-in-Ok-Now-clause-arrives
 returns-in-Ok-Now-clause-arrives g c =
     let e = c.lock.ensures in
-    let begins = lock_begins _ _ c.lock.result e.locked e.holds e.never_crowded in
+    let begins = lock_begins _ _ c.lock.result e.locked e.holds in
     begun-arrives lock_calls (pass_view c.args.pass.now) (pass_view c.lock.new.pass) None c.in-Ok-Now.guard
     (rw (c.in-Ok-Now.is, c.in-Ok-Now.field-0-is) at begins)
 
 pub returns-in-Err-clause-arrives : goal.returns-in-Err-clause-arrives
 returns-in-Err-clause-arrives g c =
     let e = c.lock.ensures in
-    let begins = lock_begins _ _ c.lock.result e.locked e.holds e.never_crowded in
+    let begins = lock_begins _ _ c.lock.result e.locked e.holds in
     refused-arrives lock_calls (pass_view c.args.pass.now) (pass_view c.lock.new.pass) None c.in-Err.refused
     (rw c.in-Err.is at begins)
 
 pub loop-init : goal.loop-init
 loop-init g c =
     let e = c.lock.ensures in
-    let begins = lock_begins _ _ c.lock.result e.locked e.holds e.never_crowded in
+    let begins = lock_begins _ _ c.lock.result e.locked e.holds in
     let begun = rw (c.in-Ok-Later.is, c.in-Ok-Later.field-0-is) at begins in record {
       belongs = e.belongs;
       ready = e.ready;

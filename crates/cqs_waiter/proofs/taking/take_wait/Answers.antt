@@ -8,21 +8,21 @@ use Rattle.cqs_waiter.proofs.taking.take_wait.Goals as goal
 pub returns-in-Ok-Took-clause-arrives : goal.returns-in-Ok-Took-clause-arrives
 returns-in-Ok-Took-clause-arrives g c =
     let e = c.take.ensures in
-    let begins = take_begins _ _ c.take.result e.taken e.leaves e.never_crowded in
+    let begins = take_begins _ _ c.take.result e.taken e.leaves in
     begun-arrives take_calls (pass_view c.args.pass.now) (pass_view c.take.new.pass) None c.in-Ok-Took.item
     (rw (c.in-Ok-Took.is, c.in-Ok-Took.field-0-is) at begins)
 
 pub returns-in-Err-clause-arrives : goal.returns-in-Err-clause-arrives
 returns-in-Err-clause-arrives g c =
     let e = c.take.ensures in
-    let begins = take_begins _ _ c.take.result e.taken e.leaves e.never_crowded in
+    let begins = take_begins _ _ c.take.result e.taken e.leaves in
     refused-arrives take_calls (pass_view c.args.pass.now) (pass_view c.take.new.pass) None c.in-Err.refused
     (rw c.in-Err.is at begins)
 
 pub loop-init : goal.loop-init
 loop-init g c =
     let e = c.take.ensures in
-    let begins = take_begins _ _ c.take.result e.taken e.leaves e.never_crowded in
+    let begins = take_begins _ _ c.take.result e.taken e.leaves in
     let begun = rw (c.in-Ok-Later.is, c.in-Ok-Later.field-0-is) at begins in record {
       belongs = e.belongs;
       ready = e.ready;

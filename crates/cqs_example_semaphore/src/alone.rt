@@ -5,7 +5,7 @@ use cqs_semaphore::{Acquired, Semaphore};
 use std::alloc::Global;
 
 /// Takes a permit and gives it back, or leaves the line again. Nobody else has a pass, so neither
-/// answer has anything that is to be finished.
+/// answer has anything that is to be finished; and the acquire has found slots for the release too.
 pub fn take_one(alloc: Global) -> Result<(), MakeError> {
     let config = Config {
         passes: 2,

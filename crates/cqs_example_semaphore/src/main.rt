@@ -5,7 +5,8 @@
 
 mod alone;
 
-ghost use Rattle.std.specs.Prelude.{◌-◌, ◌<◌};
+ghost use Rattle.std.specs.Prelude.{◌≡◌, ◌-◌, ◌<◌, true};
+ghost use Rattle.cqs_rule.specs.Passes.{ample_of};
 ghost use Rattle.cqs_semaphore.specs.Callers.{held_by, IsAtRest, IsWaiting, IsOwing, HasEnded};
 
 use alone::take_one;
@@ -14,7 +15,8 @@ use cqs_semaphore::{Acquired, CancelAnswer, Permit, Polled, Released, SemPass, S
 use std::fmt;
 use std::thread::{self, Threads};
 
-/// A pass for each thread, and room for 1,024 waits.
+/// A pass for each thread, and numbers for 1,024 waits. `ample` makes slots for all of these, so no
+/// call is crowded.
 const CONFIG: Config = Config {
     passes: 2,
     limit: 1024,
@@ -45,6 +47,7 @@ impl fmt::Display for Ending {
 /// The guest takes a permit, or waits for one.
 fn visit(semaphore: &Semaphore, pass: SemPass) -> (SemPass, Ending)
     requires rest { IsAtRest semaphore.now 0 pass }
+    requires ample { ample_of semaphore.now.queue ≡ true }
     ensures rest { IsAtRest semaphore.now 0 result.0 }
 {
     let mut pass = pass;
@@ -54,6 +57,7 @@ fn visit(semaphore: &Semaphore, pass: SemPass) -> (SemPass, Ending)
 
 fn enter(semaphore: &Semaphore, pass: &mut SemPass) -> Ending
     requires rest { IsAtRest semaphore.now (held_by pass.old) pass.old }
+    requires ample { ample_of semaphore.now.queue ≡ true }
     ensures rest { IsAtRest semaphore.now (held_by pass.old) pass.new }
 {
     match semaphore.acquire(pass) {
@@ -66,6 +70,7 @@ fn enter(semaphore: &Semaphore, pass: &mut SemPass) -> Ending
 /// The guest looks at its wait, but not for ever.
 fn wait_for(semaphore: &Semaphore, pass: &mut SemPass, wait: Wait) -> Ending
     requires waits { IsWaiting semaphore.now (held_by pass.old) wait pass.old }
+    requires ample { ample_of semaphore.now.queue ≡ true }
     ensures rest { IsAtRest semaphore.now (held_by pass.old) pass.new }
 {
     let number = wait.number();
@@ -85,6 +90,7 @@ fn wait_for(semaphore: &Semaphore, pass: &mut SemPass, wait: Wait) -> Ending
 /// The guest leaves the line, or has the permit that came before.
 fn give_up(semaphore: &Semaphore, pass: &mut SemPass, wait: Wait) -> Option<Permit>
     requires waits { IsWaiting semaphore.now (held_by pass.old) wait pass.old }
+    requires ample { ample_of semaphore.now.queue ≡ true }
     ensures ended { HasEnded semaphore.now (held_by pass.old) result pass.new }
 {
     match semaphore.cancel(pass, wait) {
@@ -101,10 +107,13 @@ fn give_up(semaphore: &Semaphore, pass: &mut SemPass, wait: Wait) -> Option<Perm
 fn leave(semaphore: &Semaphore, pass: &mut SemPass, permit: Permit) -> Ending
     requires rest { IsAtRest semaphore.now (held_by pass.old) pass.old }
     requires holds { 0 < held_by pass.old }
+    requires ample { ample_of semaphore.now.queue ≡ true }
     ensures rest { IsAtRest semaphore.now (held_by pass.old - 1) pass.new }
 {
-    if let Ok(Released::Under(under)) = semaphore.release(pass, permit) {
-        finish(semaphore, pass, under);
+    match semaphore.release(pass, permit) {
+        Ok(Released::Under(under)) => finish(semaphore, pass, under),
+        Ok(_) => {}
+        Err(_) => unreachable!(),
     }
     Ending::Admitted
 }
@@ -112,6 +121,7 @@ fn leave(semaphore: &Semaphore, pass: &mut SemPass, permit: Permit) -> Ending
 /// More waiters had left than one call passes over: goes on until the permit has arrived.
 fn finish(semaphore: &Semaphore, pass: &mut SemPass, under: Under)
     requires owes { IsOwing semaphore.now (held_by pass.old) under pass.old }
+    requires ample { ample_of semaphore.now.queue ≡ true }
     ensures rest { IsAtRest semaphore.now (held_by pass.old) pass.new }
 {
     let mut under = under;
@@ -126,6 +136,7 @@ fn finish(semaphore: &Semaphore, pass: &mut SemPass, under: Under)
 /// The host works, while the guest comes.
 fn meanwhile<R: Threads>(rt: &R, semaphore: &Semaphore, guest: SemPass) -> (SemPass, Ending)
     requires rest { IsAtRest semaphore.now 0 guest }
+    requires ample { ample_of semaphore.now.queue ≡ true }
     ensures rest { IsAtRest semaphore.now 0 result.0 }
 {
     thread::join(rt, || thread::yield_now(), || visit(semaphore, guest)).1
@@ -136,7 +147,7 @@ fn main(rt: HostRuntime) -> anyhow::Result<()> {
         anyhow::bail!("no memory for a semaphore of three");
     }
     println!(rt; "one caller took a permit and gave it back")?;
-    let Ok((semaphore, mut host)) = Semaphore::new(rt.alloc(), 1, CONFIG) else {
+    let Ok((semaphore, mut host)) = Semaphore::ample(rt.alloc(), 1, CONFIG) else {
         anyhow::bail!("no memory for the semaphore");
     };
     let Ok(guest) = semaphore.split(&mut host) else {

@@ -24,6 +24,7 @@ finish-requires c =
         held_is = refl;
         waits_are = left.waits_are ∙ (ap (without k) c.requires.waits.0.waits_are ∙ without-one k);
       };
+      ample = c.requires.ample;
     }
 
 -- nothing is owed, and the one wait has ended

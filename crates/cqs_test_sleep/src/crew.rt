@@ -33,7 +33,7 @@ pub fn crew<R: Threads + Wait + Sync + AllocGlobal>(
 ) -> anyhow::Result<Slept> {
     let config = Config {
         passes: 32,
-        limit: 1 << 20,
+        limit: 1 << 36,
         slots: 66,
     };
     let alloc = rt.alloc();
@@ -72,7 +72,7 @@ fn all_at_once<R: Threads + Wait + Sync>(
         { together(rt, semaphore, passes, rounds) },
         ||
             requires { IsIdle semaphore.now pass }
-        { give_all(semaphore, pass, permits) },
+        { give_all(rt, semaphore, pass, permits) },
     )
 }
 
@@ -140,7 +140,7 @@ fn hire_one(semaphore: &Semaphore, pass: &mut SemPass) -> anyhow::Result<SemPass
 }
 
 // Gives the permits that the pass holds, one after the other; before each the sleepers may run.
-fn give_all(semaphore: &Semaphore, pass: SemPass, permits: Vec<Permit>) -> SemPass
+fn give_all<R: Wait>(rt: &R, semaphore: &Semaphore, pass: SemPass, permits: Vec<Permit>) -> SemPass
     requires idle { IsIdle semaphore.now pass }
     ensures idle { IsIdle semaphore.now result }
 {
@@ -150,7 +150,7 @@ fn give_all(semaphore: &Semaphore, pass: SemPass, permits: Vec<Permit>) -> SemPa
             thread::yield_now();
         }
         if pass.held() > 0 {
-            give_back(semaphore, &mut pass, permit);
+            give_back(rt, semaphore, &mut pass, permit);
         }
     }
     pass

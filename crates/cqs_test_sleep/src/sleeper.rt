@@ -6,7 +6,7 @@ ghost use Rattle.cqs_semaphore.specs.Calls.{IsMine};
 ghost use Rattle.std.specs.Prelude.{◌≡◌, IfSome};
 ghost use Rattle.cqs_semaphore.specs.Callers.{IsHolder, IsIdle};
 
-use cqs_rule::Under;
+use cqs_rule::{AcquireError, Under};
 use cqs_semaphore::{Permit, Released, SemPass, Semaphore};
 use cqs_waiter::acquire_wait;
 use std::sync::Wait;
@@ -33,7 +33,7 @@ pub fn sleep_all<R: Wait>(
         if let Some(permit) = come(rt, semaphore, &mut pass) {
             came = came.saturating_add(1);
             stay();
-            give_back(semaphore, &mut pass, permit);
+            give_back(rt, semaphore, &mut pass, permit);
         }
     }
     (pass, came)
@@ -47,39 +47,52 @@ fn stay() {
     }
 }
 
-// Sleeps until a permit comes. There is none where no further number may be drawn.
+// Sleeps until a permit comes, and comes again where no slot was free for its wait. There is none
+// where no further number may be drawn.
 fn come<R: Wait>(rt: &R, semaphore: &Semaphore, pass: &mut SemPass) -> Option<Permit>
     requires idle { IsIdle semaphore.now pass.old }
     ensures idle { IsIdle semaphore.now pass.new }
     ensures holder { IfSome result (λ _. IsHolder semaphore.now pass.new) }
 {
-    match acquire_wait(rt, semaphore, pass) {
-        Ok(permit) => Some(permit),
-        Err(_) => None,
+    for _ in rt.forever() {
+        match acquire_wait(rt, semaphore, pass) {
+            Ok(permit) => return Some(permit),
+            Err(AcquireError::Worn) => return None,
+            Err(AcquireError::Crowded) => thread::yield_now(),
+        }
     }
+    unreachable!()
 }
 
-/// Gives a permit back.
-pub fn give_back(semaphore: &Semaphore, pass: &mut SemPass, permit: Permit)
+/// Gives a permit back, as soon as a slot is free for that.
+pub fn give_back<R: Wait>(rt: &R, semaphore: &Semaphore, pass: &mut SemPass, permit: Permit)
     requires holder { IsHolder semaphore.now pass.old }
     ensures idle { IsIdle semaphore.now pass.new }
 {
-    match semaphore.release(pass, permit) {
-        Ok(Released::Under(under)) => finish(semaphore, pass, under),
-        Ok(_) => {}
-        Err(_) => unreachable!(),
+    let mut permit = permit;
+    for _ in rt.forever() {
+        match semaphore.release(pass, permit) {
+            Ok(Released::Under(under)) => return finish(rt, semaphore, pass, under),
+            Ok(_) => return,
+            Err((back, _)) => {
+                permit = back;
+                thread::yield_now();
+            }
+        }
     }
+    unreachable!()
 }
 
-// More waiters had left than one call passes over: goes on until the permit has arrived.
-fn finish(semaphore: &Semaphore, pass: &mut SemPass, under: Under)
+// More waiters had left than one call passes over, or there was no slot: goes on until the permit
+// has arrived.
+fn finish<R: Wait>(rt: &R, semaphore: &Semaphore, pass: &mut SemPass, under: Under)
     requires belongs { IsMine semaphore.now pass.old }
     requires owes { HasUnder (pass_view pass.old).facts under }
     requires further { (pass_view pass.old).facts.has.further ≡ 0 }
     ensures idle { IsIdle semaphore.now pass.new }
 {
     let mut under = under;
-    'arrive: loop {
+    for _ in rt.forever() {
         match semaphore.finish(pass, under) {
             Released::Under(again) => under = again,
             Released::Freed => return,
@@ -88,4 +101,5 @@ fn finish(semaphore: &Semaphore, pass: &mut SemPass, under: Under)
             Released::Void(_) => return,
         }
     }
+    unreachable!()
 }

@@ -9,5 +9,5 @@ returns-in-Ok-clause-holder g c =
     let arrives = rw c.in-Ok.is at c.acquire_wait.ensures.arrives in
     record {
       idle = record { belongs = c.acquire_wait.ensures.belongs; ready = c.acquire_wait.ensures.ready };
-      holds = arrived-holds (pass_view c.args.pass.now) (pass_view c.acquire_wait.new.pass) c.in-Ok.permit arrives;
+      holds = arrived-holds (pass_view c.loop.pass) (pass_view c.acquire_wait.new.pass) c.in-Ok.permit arrives;
     }

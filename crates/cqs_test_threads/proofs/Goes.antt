@@ -15,6 +15,7 @@ use Rattle.cqs_barrier.specs.Leaving.{HasLeaving, HasLeft}
 use Rattle.cqs_barrier.specs.Resuming.{HasOwing}
 use Rattle.cqs_barrier.specs.Waits.{wait_in}
 use Rattle.cqs_barrier_rounds.specs.declared.answers.RoundArrived.TheVariants as arrived
+use Rattle.cqs_barrier_rounds.specs.declared.answers.RoundError.TheVariants.{Crowded}
 use Rattle.cqs_barrier_rounds.specs.declared.answers.RoundLeft.TheVariants as left
 use Rattle.cqs_barrier_rounds.specs.declared.answers.RoundPolled.TheVariants as polled
 use Rattle.cqs_barrier_rounds.specs.declared.members.Member.{Member}
@@ -129,6 +130,17 @@ late-ready : (k : ℕ) (v w : Party) → HasLeft k v TooLate w → IsReady w.fac
 late-ready k v w (inl stayed) = stayed.1.ready
 late-ready k v w (inr late) = late.1.ready
 
+-- an arrival was refused as crowded, by a pass that held a party
+abbrev IsCrowdedHolding : Member → Member → Party → Party → Type 0
+IsCrowdedHolding m same v w = ArrivesAt (round_of m) v (Err (same, Crowded)) w × (0 < v.facts.has.held)
+
+crowded-holds : (m same : Member) (v w : Party) → IsCrowdedHolding m same v w
+    → (round_of same ≡ round_of m) × IsReady w.facts × (0 < w.facts.has.held)
+crowded-holds m same v w c =
+    let stays = c.0.1.rests.held_is in
+    let some = c.1 in
+    (c.0.0, c.0.1.rests.ready, omega (arith, stays, some))
+
 withdrawn-holds : (k : ℕ) (v w : Party) → HasLeft k v Withdrawn w → 0 < w.facts.has.held
 withdrawn-holds k v w gone = let held = gone.1.held_is in omega arith
 
@@ -154,7 +166,7 @@ module _ {g : Ghosts BarrierClient (Unit {0}) BarrierEntry}
         → OwesAt o qs × (owing_round o ≡ round_of m)
     arrive-owing m o on called =
         owes-here _ (round_of m) ps qs called o (else-of (round_of m) on.ready) (later-of (round_of m) on.holds)
-        (λ v w c. (c.0, c.1.arrives.3))
+        (λ v w c. (c.0, c.1.arrives.2))
 
     pub arrive-later : (m : Member) (t : MemberWait) → MayGoOn m ps
         → IsCalled (λ v w. ArrivesAt (round_of m) v (Ok (arrived.Later t)) w) (round_of m) ps qs
@@ -163,17 +175,35 @@ module _ {g : Ghosts BarrierClient (Unit {0}) BarrierEntry}
         waits-here _ (round_of m) ps qs called t (else-of (round_of m) on.ready) (later-of (round_of m) on.holds)
         (λ v w c. (c.0, c.1.arrives.1, c.1.arrives.2.ready))
 
+    -- one that was crowded leaves all as it was
+    pub arrive-crowded : (m same : Member) → MayGoOn m ps
+        → IsCalled (λ v w. ArrivesAt (round_of m) v (Err (same, Crowded)) w) (round_of m) ps qs
+        → MayGoOn same qs × (round_of same ≡ round_of m)
+    arrive-crowded m same on called =
+        let held = on.holds (round_of m) called.old (omega arith) called.was in
+        let holding : IsCalled (IsCrowdedHolding m same) (round_of m) ps qs =
+        record {
+          old = called.old;
+          new = called.new;
+          was = called.was;
+          now = called.now;
+          called = (called.called, held);
+        } in
+        let again = comes-again (IsCrowdedHolding m same) (round_of m) ps qs holding same
+        (else-of (round_of m) on.ready) (later-of (round_of m) on.holds) (crowded-holds m same) in
+        (again.on, called.called.0)
+
     -- the end of what was owed
     pub finish-done : (o : MemberOwing) (m : Member) → OwesAt o ps
         → IsCalled (λ v w. FinishesAt (owing_round o) v (Ok m) w) (owing_round o) ps qs → Comes (owing_round o) m qs
     finish-done o m owes called =
-        comes-next _ (owing_round o) ps qs called m owes.others owes.holds (λ v w c. (c.0, c.1.finishes.3))
+        comes-next _ (owing_round o) ps qs called m owes.others owes.holds (λ v w c. (c.0, c.1.finishes.4))
 
     pub finish-again : (o again : MemberOwing) → OwesAt o ps
         → IsCalled (λ v w. FinishesAt (owing_round o) v (Err again) w) (owing_round o) ps qs
         → OwesAt again qs × (owing_round again ≡ owing_round o)
     finish-again o again owes called =
-        owes-here _ (owing_round o) ps qs called again owes.others owes.holds (λ v w c. (c.0, c.1.finishes.4))
+        owes-here _ (owing_round o) ps qs called again owes.others owes.holds (λ v w c. (c.0, c.1.finishes.3))
 
     -- a look
     pub poll-through : (t : MemberWait) (m : Member) → WaitsAt t ps

@@ -7,6 +7,7 @@ mod worker;
 use crate::latches::crew::{Sums, together};
 use cqs_latch::{Latch, LatchWait};
 use cqs_rule::{CancelMode, Config};
+use std::sync::Wait;
 use std::thread::Threads;
 
 /// So many threads count down, and as many wait.
@@ -16,10 +17,13 @@ const COUNTERS: u32 = 4;
 const ROUNDS: u32 = 100;
 
 /// A pass for each thread, and one besides.
+const PASSES: u32 = 2 * COUNTERS + 1;
+
+/// The fewest slots for so many passes.
 const CONFIG: Config = Config {
-    passes: 2 * COUNTERS + 1,
+    passes: PASSES,
     limit: 64,
-    slots: 20,
+    slots: 2 * PASSES + 2,
 };
 
 /// What is the same in every run.
@@ -32,7 +36,10 @@ struct Rounds {
     open: u32,
 }
 
-fn rounds_of<R: Threads + Sync + AllocGlobal>(rt: &R, mode: CancelMode) -> anyhow::Result<Rounds> {
+fn rounds_of<R: Threads + Wait + Sync + AllocGlobal>(
+    rt: &R,
+    mode: CancelMode,
+) -> anyhow::Result<Rounds> {
     let mut all = Rounds {
         sums: Sums::default(),
         alone: 0,
@@ -56,7 +63,7 @@ fn rounds_of<R: Threads + Sync + AllocGlobal>(rt: &R, mode: CancelMode) -> anyho
     Ok(all)
 }
 
-fn run<R: Threads + Sync + Print + AllocGlobal>(
+fn run<R: Threads + Wait + Sync + Print + AllocGlobal>(
     rt: &R,
     name: &str,
     mode: CancelMode,
@@ -72,7 +79,7 @@ fn run<R: Threads + Sync + Print + AllocGlobal>(
 }
 
 /// Counts latches down in smart mode, and then in simple mode.
-pub fn run_latches<R: Threads + Sync + Print + AllocGlobal>(rt: &R) -> anyhow::Result<()> {
+pub fn run_latches<R: Threads + Wait + Sync + Print + AllocGlobal>(rt: &R) -> anyhow::Result<()> {
     run(rt, "smart", CancelMode::Smart)?;
     run(rt, "simple", CancelMode::Simple)
 }

@@ -13,21 +13,25 @@ mod giving;
 mod waiting;
 mod worker;
 
-use crate::pools::crew::{dismiss, hire, two};
+use crate::pools::crew::{dismiss, four, hire, two};
 use crate::pools::worker::ROUNDS;
 use cqs_pool_values::{ItemTaking, ValuePass, ValuePool};
 use cqs_rule::Config;
 use std::alloc::Global;
-use std::thread::{self, Threads};
+use std::sync::Wait;
+use std::thread::Threads;
 
 /// So many values there are.
 const VALUES: u32 = 4;
 
 /// Three passes for each of four threads, and one for the caller.
+const PASSES: u32 = 13;
+
+/// The fewest slots for so many passes and values: they are used again.
 const CONFIG: Config = Config {
-    passes: 13,
-    limit: 1 << 16,
-    slots: 64,
+    passes: PASSES,
+    limit: 1 << 36,
+    slots: 2 * PASSES + 2 + VALUES / 32 + 1,
 };
 
 /// A pool of zeros, and its first pass.
@@ -45,7 +49,7 @@ fn open(alloc: Global) -> anyhow::Result<(ValuePool<u64>, ValuePass<u64>)>
 }
 
 /// A crew of two counts on a pool of its own.
-fn run_two<R: Threads + Sync + Print + AllocGlobal>(rt: &R) -> anyhow::Result<()> {
+fn run_two<R: Threads + Wait + Sync + Print + AllocGlobal>(rt: &R) -> anyhow::Result<()> {
     let (pool, mut pass) = open(rt.alloc())?;
     let first = hire(&pool, &mut pass)?;
     let second = hire(&pool, &mut pass)?;
@@ -56,16 +60,17 @@ fn run_two<R: Threads + Sync + Print + AllocGlobal>(rt: &R) -> anyhow::Result<()
 }
 
 /// A crew of four does.
-fn run_four<R: Threads + Sync + Print + AllocGlobal>(rt: &R) -> anyhow::Result<()> {
+fn run_four<R: Threads + Wait + Sync + Print + AllocGlobal>(rt: &R) -> anyhow::Result<()> {
     let (pool, mut pass) = open(rt.alloc())?;
     let first = hire(&pool, &mut pass)?;
     let second = hire(&pool, &mut pass)?;
     let third = hire(&pool, &mut pass)?;
     let fourth = hire(&pool, &mut pass)?;
-    let (((first, a), (second, b)), ((third, c), (fourth, d))) = thread::join(
+    let (((first, a), (second, b)), ((third, c), (fourth, d))) = four(
         rt,
-        || two(rt, &pool, first, second),
-        || two(rt, &pool, third, fourth),
+        &pool,
+        (first, second),
+        (third, fourth),
     );
     dismiss(&pool, &mut pass, first);
     dismiss(&pool, &mut pass, second);
@@ -112,7 +117,7 @@ fn take_all(pool: &ValuePool<u64>, pass: &mut ValuePass<u64>) -> (u32, u64)
 }
 
 /// A crew of two counts, and then one of four.
-pub fn run_pools<R: Threads + Sync + Print + AllocGlobal>(rt: &R) -> anyhow::Result<()> {
+pub fn run_pools<R: Threads + Wait + Sync + Print + AllocGlobal>(rt: &R) -> anyhow::Result<()> {
     run_two(rt)?;
     run_four(rt)
 }

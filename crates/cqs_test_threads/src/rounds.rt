@@ -10,6 +10,7 @@ mod seats;
 
 use crate::rounds::crew::together;
 use crate::rounds::row::two_rounds;
+use std::sync::Wait;
 use std::thread::Threads;
 
 /// The crews: how many parties, and how many rounds.
@@ -24,7 +25,7 @@ const CREWS: [(u32, u32); 7] = [
 ];
 
 /// Two members go through two rounds, and then each crew through its own.
-pub fn run_rounds<R: Threads + Sync + Print + AllocGlobal>(rt: &R) -> anyhow::Result<()> {
+pub fn run_rounds<R: Threads + Wait + Sync + Print + AllocGlobal>(rt: &R) -> anyhow::Result<()> {
     let Some(so) = two_rounds(rt.alloc()) else {
         anyhow::bail!("two members did not go through two rounds");
     };

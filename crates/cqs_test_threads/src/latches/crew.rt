@@ -6,6 +6,7 @@ ghost use Rattle.cqs_test_threads.specs.Rest.{AreAtRest, FourAreAtRest, HaveWork
 use crate::latches::worker::{Ending, Job, work};
 use cqs_latch::{Latch, LatchPass};
 use cqs_rule::Crowd;
+use std::sync::Wait;
 use std::thread::{self, Threads};
 
 /// How often each ending came.
@@ -54,7 +55,7 @@ type Four = ((LatchPass, LatchPass), (LatchPass, LatchPass));
 
 /// Four threads count the latch down, and four wait for it, in the round of this number; then their
 /// passes meet this one.
-pub fn together<R: Threads + Sync>(
+pub fn together<R: Threads + Wait + Sync>(
     rt: &R,
     latch: &Latch,
     pass: &mut LatchPass,
@@ -112,7 +113,7 @@ fn hire_four(latch: &Latch, pass: &mut LatchPass) -> Result<Four, Crowd>
 type Worked = (LatchPass, Ending);
 
 // Two threads, each with its job.
-fn work_two<R: Threads>(
+fn work_two<R: Threads + Wait + Sync>(
     rt: &R,
     latch: &Latch,
     passes: (LatchPass, LatchPass),
@@ -125,13 +126,13 @@ fn work_two<R: Threads>(
     let (one, other) = jobs;
     thread::join(
         rt,
-        || work(latch, first, one),
-        || work(latch, second, other),
+        || work(rt, latch, first, one),
+        || work(rt, latch, second, other),
     )
 }
 
 // And four.
-fn work_four<R: Threads + Sync>(
+fn work_four<R: Threads + Wait + Sync>(
     rt: &R,
     latch: &Latch,
     passes: Four,
@@ -145,13 +146,17 @@ fn work_four<R: Threads + Sync>(
     let (first, second) = passes;
     thread::join(
         rt,
-        || work_two(rt, latch, first, early),
-        || work_two(rt, latch, second, late),
+        ||
+            requires { AreAtRest latch.now first }
+        { work_two(rt, latch, first, early) },
+        ||
+            requires { AreAtRest latch.now second }
+        { work_two(rt, latch, second, late) },
     )
 }
 
 // Four count down, and four wait.
-fn work_eight<R: Threads + Sync>(
+fn work_eight<R: Threads + Wait + Sync>(
     rt: &R,
     latch: &Latch,
     counters: Four,

@@ -7,7 +7,8 @@ ghost use Rattle.cqs_test_threads.specs.Rest.{IsAtRest, IsWaiting};
 ghost use Rattle.cqs_rule.specs.Passes.{pass_view};
 
 use cqs_latch::{Down, Latch, LatchLeft, LatchPass, LatchPolled, LatchWait, Owed};
-use cqs_rule::Wait;
+use cqs_rule::{AcquireError, Wait};
+use std::sync::Wait as MayWait;
 use std::thread;
 
 /// Before a count down other threads may run so often.
@@ -35,74 +36,91 @@ pub enum Ending {
 }
 
 /// Does the job, and hands the pass back.
-pub fn work(latch: &Latch, pass: LatchPass, job: Job) -> (LatchPass, Ending)
+pub fn work<R: MayWait>(rt: &R, latch: &Latch, pass: LatchPass, job: Job) -> (LatchPass, Ending)
     requires rest { IsAtRest latch.now pass }
     ensures rest { IsAtRest latch.now result.0 }
 {
     let mut pass = pass;
     let ending = match job {
-        Job::Counts => count(latch, &mut pass),
-        Job::Waits => wait(latch, &mut pass, true),
-        Job::Leaves => wait(latch, &mut pass, false),
+        Job::Counts => count(rt, latch, &mut pass),
+        Job::Waits => wait(rt, latch, &mut pass, true),
+        Job::Leaves => wait(rt, latch, &mut pass, false),
     };
     (pass, ending)
 }
 
-// Counts down once, after a while.
-fn count(latch: &Latch, pass: &mut LatchPass) -> Ending
-    requires rest { IsAtRest latch.now pass.old }
-    ensures rest { IsAtRest latch.now pass.new }
-{
+// Lets others run.
+fn pause() {
     for _ in 0..PAUSES {
         thread::yield_now();
     }
-    match latch.count_down(pass) {
-        Ok(Down::Left(_)) => Ending::Counted,
-        Ok(Down::Last) => Ending::Counted,
-        Ok(Down::LastOwing(owed)) => {
-            finish(latch, pass, owed);
-            Ending::Counted
-        }
-        Ok(Down::Already) => Ending::Counted,
-        Err(_) => unreachable!(),
-    }
 }
 
-// Goes on until all that is owed is done.
-fn finish(latch: &Latch, pass: &mut LatchPass, owed: Owed)
+// Counts down once, after a while, as soon as there is a slot for that.
+fn count<R: MayWait>(rt: &R, latch: &Latch, pass: &mut LatchPass) -> Ending
+    requires rest { IsAtRest latch.now pass.old }
+    ensures rest { IsAtRest latch.now pass.new }
+{
+    pause();
+    for _ in rt.forever() {
+        match latch.count_down(pass) {
+            Ok(Down::Left(_)) => return Ending::Counted,
+            Ok(Down::Last) => return Ending::Counted,
+            Ok(Down::LastOwing(owed)) => {
+                finish(rt, latch, pass, owed);
+                return Ending::Counted;
+            }
+            Ok(Down::Already) => return Ending::Counted,
+            Err(_) => thread::yield_now(),
+        }
+    }
+    unreachable!()
+}
+
+// Goes on until all that is owed is done, also where it was handed back for want of a slot.
+fn finish<R: MayWait>(rt: &R, latch: &Latch, pass: &mut LatchPass, owed: Owed)
     requires belongs { IsMine latch.now pass.old }
     requires owes { HasOwed (pass_view pass.old).facts owed }
     ensures rest { IsAtRest latch.now pass.new }
 {
     let mut owed = owed;
-    'end: loop {
+    for _ in rt.forever() {
         match latch.finish(pass, owed) {
             Ok(()) => return,
-            Err(again) => owed = again,
+            Err(again) => {
+                owed = again;
+                thread::yield_now();
+            }
         }
     }
+    unreachable!()
 }
 
-// Waits until it passes, or gives the wait up at once.
-fn wait(latch: &Latch, pass: &mut LatchPass, patient: bool) -> Ending
+// Waits until it passes, or gives the wait up at once. It comes again where there were no slots for
+// its wait.
+fn wait<R: MayWait>(rt: &R, latch: &Latch, pass: &mut LatchPass, patient: bool) -> Ending
     requires rest { IsAtRest latch.now pass.old }
     ensures rest { IsAtRest latch.now pass.new }
 {
-    match latch.wait(pass) {
-        Ok(LatchWait::Passed) => Ending::Passed,
-        Ok(LatchWait::Later(wait)) => {
-            if patient {
-                look_on(latch, pass, wait)
-            } else {
-                leave(latch, pass, wait)
+    for _ in rt.forever() {
+        match latch.wait(pass) {
+            Ok(LatchWait::Passed) => return Ending::Passed,
+            Ok(LatchWait::Later(wait)) => {
+                return if patient {
+                    look_on(rt, latch, pass, wait)
+                } else {
+                    leave(rt, latch, pass, wait)
+                };
             }
+            Err(AcquireError::Worn) => return Ending::Worn,
+            Err(AcquireError::Crowded) => thread::yield_now(),
         }
-        Err(_) => Ending::Worn,
     }
+    unreachable!()
 }
 
 // Looks at the wait until it passes. Between two looks other threads may run.
-fn look_on(latch: &Latch, pass: &mut LatchPass, wait: Wait) -> Ending
+fn look_on<R: MayWait>(rt: &R, latch: &Latch, pass: &mut LatchPass, wait: Wait) -> Ending
     requires waits { IsWaiting latch.now wait pass.old }
     ensures rest { IsAtRest latch.now pass.new }
 {
@@ -116,18 +134,18 @@ fn look_on(latch: &Latch, pass: &mut LatchPass, wait: Wait) -> Ending
             }
         }
     }
-    leave(latch, pass, wait)
+    leave(rt, latch, pass, wait)
 }
 
 // Gives the wait up, which may come too late.
-fn leave(latch: &Latch, pass: &mut LatchPass, wait: Wait) -> Ending
+fn leave<R: MayWait>(rt: &R, latch: &Latch, pass: &mut LatchPass, wait: Wait) -> Ending
     requires waits { IsWaiting latch.now wait pass.old }
     ensures rest { IsAtRest latch.now pass.new }
 {
     match latch.cancel(pass, wait) {
         LatchLeft::Gone => Ending::Left,
         LatchLeft::GoneOwing(owed) => {
-            finish(latch, pass, owed);
+            finish(rt, latch, pass, owed);
             Ending::Left
         }
         LatchLeft::TooLate => Ending::Passed,

@@ -5,10 +5,11 @@ ghost use Rattle.cqs_test_threads.specs.Workers.{IsAtRest, AreAtRest};
 
 use crate::pools::worker::{Hands, work};
 use cqs_pool_values::{ValuePass, ValuePool};
+use std::sync::Wait;
 use std::thread::{self, Threads};
 
 /// Two workers make their rounds.
-pub fn two<R: Threads>(
+pub fn two<R: Threads + Wait + Sync>(
     rt: &R,
     pool: &ValuePool<u64>,
     first: Hands,
@@ -19,7 +20,38 @@ pub fn two<R: Threads>(
     ensures first { AreAtRest pool.now result.0.0 }
     ensures second { AreAtRest pool.now result.1.0 }
 {
-    thread::join(rt, || work(pool, first), || work(pool, second))
+    thread::join(rt, || work(rt, pool, first), || work(rt, pool, second))
+}
+
+/// And four.
+pub fn four<R: Threads + Wait + Sync>(
+    rt: &R,
+    pool: &ValuePool<u64>,
+    early: (Hands, Hands),
+    late: (Hands, Hands),
+) -> (((Hands, u64), (Hands, u64)), ((Hands, u64), (Hands, u64)))
+    requires first { AreAtRest pool.now early.0 }
+    requires second { AreAtRest pool.now early.1 }
+    requires third { AreAtRest pool.now late.0 }
+    requires fourth { AreAtRest pool.now late.1 }
+    ensures first { AreAtRest pool.now result.0.0.0 }
+    ensures second { AreAtRest pool.now result.0.1.0 }
+    ensures third { AreAtRest pool.now result.1.0.0 }
+    ensures fourth { AreAtRest pool.now result.1.1.0 }
+{
+    let (first, second) = early;
+    let (third, fourth) = late;
+    thread::join(
+        rt,
+        ||
+            requires first { AreAtRest pool.now first }
+            requires second { AreAtRest pool.now second }
+        { two(rt, pool, first, second) },
+        ||
+            requires third { AreAtRest pool.now third }
+            requires fourth { AreAtRest pool.now fourth }
+        { two(rt, pool, third, fourth) },
+    )
 }
 
 /// The three passes of one worker.

@@ -5,6 +5,7 @@ ghost use Rattle.cqs_test_threads.specs.Workers.{IsWaiting, HasLooked, HasEnded}
 use crate::pools::giving::finish_all;
 use cqs_pool_values::{Item, ItemLeft, ItemPolled, ValuePass, ValuePool};
 use cqs_rule::Wait;
+use std::sync::Wait as MayWait;
 use std::thread;
 
 // A worker looks so often at a wait before it gives it up.
@@ -30,25 +31,35 @@ fn look_on(pool: &ValuePool<u64>, pass: &mut ValuePass<u64>, wait: Wait) -> Item
 }
 
 /// Looks at the wait for a while, and then gives it up.
-pub fn wait_for(pool: &ValuePool<u64>, pass: &mut ValuePass<u64>, wait: Wait) -> Option<Item<u64>>
+pub fn wait_for<R: MayWait>(
+    rt: &R,
+    pool: &ValuePool<u64>,
+    pass: &mut ValuePass<u64>,
+    wait: Wait,
+) -> Option<Item<u64>>
     requires waits { IsWaiting pool.now wait pass.old }
     ensures ended { HasEnded pool.now result pass.new }
 {
     match look_on(pool, pass, wait) {
         ItemPolled::Granted(item) => Some(item),
-        ItemPolled::Pending(wait) => give_up(pool, pass, wait),
+        ItemPolled::Pending(wait) => give_up(rt, pool, pass, wait),
     }
 }
 
 /// Gives the wait up. There is an item where one had come before.
-pub fn give_up(pool: &ValuePool<u64>, pass: &mut ValuePass<u64>, wait: Wait) -> Option<Item<u64>>
+pub fn give_up<R: MayWait>(
+    rt: &R,
+    pool: &ValuePool<u64>,
+    pass: &mut ValuePass<u64>,
+    wait: Wait,
+) -> Option<Item<u64>>
     requires waits { IsWaiting pool.now wait pass.old }
     ensures ended { HasEnded pool.now result pass.new }
 {
     match pool.cancel(pass, wait) {
         ItemLeft::Cancelled(None) => None,
         ItemLeft::Cancelled(Some(under)) => {
-            finish_all(pool, pass, under);
+            finish_all(rt, pool, pass, under);
             None
         }
         ItemLeft::TooLate(item) => Some(item),

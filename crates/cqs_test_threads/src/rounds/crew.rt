@@ -8,6 +8,7 @@ use crate::rounds::going::{NOTHING, Seen, both, go_through};
 use crate::rounds::seats::{Seat, open};
 use cqs_barrier_rounds::{Rounds, RoundsPass};
 use std::alloc::Global;
+use std::sync::Wait;
 use std::thread::{self, Threads};
 
 /// What became of a crew.
@@ -21,7 +22,7 @@ pub struct Told {
 
 /// So many members go through so many rounds, each on a thread of its own; nothing where there is
 /// no memory for it.
-pub fn together<R: Threads + Sync>(
+pub fn together<R: Threads + Wait + Sync>(
     rt: &R,
     alloc: Global,
     parties: u32,
@@ -31,19 +32,24 @@ pub fn together<R: Threads + Sync>(
     let Ok(arrivals) = Arrivals::new(alloc, parties, rounds.rounds()) else {
         return None;
     };
-    let Ok(worked) = thread::map_vec(rt, seats, &|seat| work(&rounds, &arrivals, seat)) else {
+    let Ok(worked) = thread::map_vec(rt, seats, &|seat| work(rt, &rounds, &arrivals, seat)) else {
         return None;
     };
     Some(gather(&rounds, worked))
 }
 
 // What each thread does.
-fn work(rounds: &Rounds, arrivals: &Arrivals, seat: Seat) -> Option<(RoundsPass, Seen)>
+fn work<R: Wait>(
+    rt: &R,
+    rounds: &Rounds,
+    arrivals: &Arrivals,
+    seat: Seat,
+) -> Option<(RoundsPass, Seen)>
     requires { Sits rounds.now seat }
     ensures { HasWorked rounds.now result }
 {
     let Seat { pass, member } = seat;
-    go_through(rounds, pass, member, arrivals)
+    go_through(rt, rounds, pass, member, arrivals)
 }
 
 // Has one of the passes take in the others, and adds up what their members saw.

@@ -8,9 +8,10 @@ ghost use Rattle.cqs_test_threads.specs.Goes.{Comes, LeavesOn, MayGoOn, OwesAt, 
 
 use crate::rounds::arrivals::Arrivals;
 use cqs_barrier_rounds::{
-    Member, MemberLeaving, MemberOwing, MemberWait, RoundArrived, RoundLeft, RoundPolled, Rounds,
-    RoundsPass,
+    Member, MemberLeaving, MemberOwing, MemberWait, RoundArrived, RoundError, RoundLeft,
+    RoundPolled, Rounds, RoundsPass,
 };
+use std::sync::Wait;
 use std::thread;
 
 /// Of so many tries of a member to go through a round, one is given up at once where the member has
@@ -36,7 +37,8 @@ pub const NOTHING: Seen = Seen {
 };
 
 /// Goes through all rounds; nothing where a round is worn.
-pub fn go_through(
+pub fn go_through<R: Wait>(
+    rt: &R,
     rounds: &Rounds,
     pass: RoundsPass,
     member: Member,
@@ -57,7 +59,7 @@ pub fn go_through(
             return Some((pass, seen));
         }
         arrivals.come(round);
-        member = attempt(rounds, &mut pass, member, time % PATIENCE != 0)?;
+        member = attempt(rt, rounds, &mut pass, member, time % PATIENCE != 0)?;
         if member.round() == round {
             arrivals.leave(round);
             seen = after_leaving(seen);
@@ -94,44 +96,61 @@ pub fn both(one: Seen, other: Seen) -> Seen {
     }
 }
 
-// Arrives in its round, and goes through it, or leaves it where the member isn't patient.
-fn attempt(rounds: &Rounds, pass: &mut RoundsPass, member: Member, patient: bool) -> Option<Member>
+// Arrives in its round, as soon as there are slots for that, and goes through it, or leaves it
+// where the member isn't patient.
+fn attempt<R: Wait>(
+    rt: &R,
+    rounds: &Rounds,
+    pass: &mut RoundsPass,
+    member: Member,
+    patient: bool,
+) -> Option<Member>
     requires belongs { AreMine (barriers_of rounds.now) pass.old.passes.items }
     requires member { round_of member < rounds_in rounds.now }
     requires on { MayGoOn member pass.old.passes.items }
     ensures belongs { AreMine (barriers_of rounds.now) pass.new.passes.items }
     ensures comes { IfSome result (λ m. Comes (round_of member) m pass.new.passes.items) }
 {
-    match rounds.arrive(pass, member) {
-        Ok(RoundArrived::Last(next)) => Some(next),
-        Ok(RoundArrived::LastOwing(owing)) => finish(rounds, pass, owing),
-        Ok(RoundArrived::Later(wait)) => {
-            if patient {
-                look_on(rounds, pass, wait)
-            } else {
-                give_up(rounds, pass, wait)
+    let mut member = member;
+    for _ in rt.forever() {
+        match rounds.arrive(pass, member) {
+            Ok(RoundArrived::Last(next)) => return Some(next),
+            Ok(RoundArrived::LastOwing(owing)) => return Some(finish(rt, rounds, pass, owing)),
+            Ok(RoundArrived::Later(wait)) => {
+                if patient {
+                    return look_on(rounds, pass, wait);
+                }
+                return give_up(rounds, pass, wait);
             }
+            Err((same, RoundError::Crowded)) => {
+                member = same;
+                thread::yield_now();
+            }
+            Err(_) => return None,
         }
-        Err(_) => None,
     }
+    unreachable!()
 }
 
 // Goes on until all who waited have heard of the last.
-fn finish(rounds: &Rounds, pass: &mut RoundsPass, owing: MemberOwing) -> Option<Member>
+fn finish<R: Wait>(rt: &R, rounds: &Rounds, pass: &mut RoundsPass, owing: MemberOwing) -> Member
     requires belongs { AreMine (barriers_of rounds.now) pass.old.passes.items }
     requires member { owing_round owing < rounds_in rounds.now }
     requires owes { OwesAt owing pass.old.passes.items }
     ensures belongs { AreMine (barriers_of rounds.now) pass.new.passes.items }
-    ensures comes { IfSome result (λ m. Comes (owing_round owing) m pass.new.passes.items) }
+    ensures comes { Comes (owing_round owing) result pass.new.passes.items }
 {
     let mut owing = owing;
-    for _ in 0..u64::MAX {
+    for _ in rt.forever() {
         match rounds.finish(pass, owing) {
-            Ok(next) => return Some(next),
-            Err(again) => owing = again,
+            Ok(next) => return next,
+            Err(again) => {
+                owing = again;
+                thread::yield_now();
+            }
         }
     }
-    None
+    unreachable!()
 }
 
 // Looks at the wait until the member goes through.

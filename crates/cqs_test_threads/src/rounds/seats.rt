@@ -17,15 +17,15 @@ pub struct Seat {
     pub member: Member,
 }
 
-/// So many rounds of so many parties, and a seat for each of their members; nothing where there is
-/// no memory for it.
+/// So many rounds of so many parties, each on the fewest slots, and a seat for each of their
+/// members; nothing where there is no memory for it.
 pub fn open(alloc: Global, parties: u32, rounds: u32) -> Option<(Rounds, Vec<Seat>)>
     ensures { IfSome result (λ made. All (Sits made.0) made.1.items) }
 {
     let config = Config {
         passes: parties,
         limit: 256,
-        slots: 128,
+        slots: parties.saturating_mul(2).saturating_add(2),
     };
     let Ok((rounds, pass, members)) = Rounds::new(alloc, parties, rounds, config) else {
         return None;

@@ -5,4 +5,4 @@ use Rattle.cqs_test_threads.proofs.mutexes.add_all.Given as goal
 
 -- between two rounds the pass is ready
 abbrev pub invariant-loop-round : goal.invariant-loop-round
-invariant-loop-round l = record { belongs : Belongs l.mutex l.pass; ready : IsReady (pass_view l.pass).facts }
+invariant-loop-round g l = record { belongs : Belongs l.mutex l.pass; ready : IsReady (pass_view l.pass).facts }

@@ -1,9 +1,9 @@
 use Rattle.std.proofs.Common.{◌∙◌}
 use Rattle.cqs_test_threads.proofs.pools.giving.finish_all.Goals as goal
 
-pub arrive-preserved : goal.arrive-preserved
-arrive-preserved c =
-    let owing = c.arrive.invariant.owing in
+pub loop-preserved : goal.loop-preserved
+loop-preserved g c =
+    let owing = c.loop.invariant.owing in
     let ends = rw c.in-Under.is at c.finish.ensures.ends in
     record {
       owing = record {

@@ -6,7 +6,7 @@ use Rattle.cqs_test_threads.proofs.rounds.going.finish.Given as goal
 
 -- between two calls the member owes, in its round
 abbrev pub invariant-loop : goal.invariant-loop
-invariant-loop l = record {
+invariant-loop g l = record {
   belongs : AreMine (barriers_of l.rounds) l.pass.passes.items;
   still : OwesAt l.owing l.pass.passes.items;
   same : owing_round l.owing ≡ owing_round l.fn.owing;

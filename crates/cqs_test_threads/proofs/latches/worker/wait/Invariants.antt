@@ -1,0 +1,6 @@
+use Rattle.cqs_test_threads.specs.Rest.{IsAtRest}
+use Rattle.cqs_test_threads.proofs.latches.worker.wait.Given as goal
+
+-- between two tries the pass is at rest
+abbrev pub invariant-loop : goal.invariant-loop
+invariant-loop g l = record { rest : IsAtRest l.latch l.pass }

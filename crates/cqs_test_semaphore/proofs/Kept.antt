@@ -1,9 +1,11 @@
 -- The waits of a pass go along through its calls: those that it has still are its own still.
-use Rattle.std.proofs.Common.{◌≡◌, ◌≢◌, ℕ, List, [], ◌∷◌, ◌++◌, All, Option, Some, None, Ok, sym, subst, refl, rules, ap, ◌∙◌}
+use Rattle.std.proofs.Common.{◌≡◌, ◌≢◌, ℕ, List, [], ◌∷◌, ◌++◌, All, Option, Some, None, Ok, Err, IsErrOf, sym, subst, refl, rules, ap, ◌∙◌}
 use Rattle.std.proofs.lemmas.List.Elements.{All-weaker}
 use Rattle.cqs_core.specs.declared.entries.Entry.{Entry}
 use Rattle.cqs_rule.specs.declared.queue.tokens.Under as token
 use Rattle.cqs_rule.specs.declared.queue.tokens.Wait.{Wait}
+use Rattle.cqs_rule_laws.specs.declared.config.AcquireError.{AcquireError}
+use Rattle.cqs_rule_laws.specs.declared.config.AcquireError.TheVariants.{Worn, Crowded}
 use Rattle.cqs_rule_laws.specs.declared.view.Facts.{Facts}
 use Rattle.cqs_rule_laws.specs.declared.view.View.{View}
 use Rattle.cqs_rule_laws.specs.Lists.{Has, without}
@@ -12,10 +14,11 @@ use Rattle.cqs_rule.specs.Waits.{HasWait, place_of}
 use Rattle.cqs_rule_laws.proofs.Lists.{has_left, without_has}
 use Rattle.cqs_rule_laws.proofs.Places.{goes-looked}
 use Rattle.cqs_rule.proofs.Places.{has-wait-on}
+use Rattle.cqs_semaphore.specs.declared.answers.Acquired.{Acquired}
 use Rattle.cqs_semaphore.specs.declared.answers.Permit.{Permit}
 use Rattle.cqs_semaphore.specs.declared.answers.Released.{Released}
 use Rattle.cqs_semaphore.specs.declared.answers.Released.TheVariants.{Freed, Sent, Left, Void, Under}
-use Rattle.cqs_semaphore.specs.Answers.{Takes, Ends, Releases, PassesOn}
+use Rattle.cqs_semaphore.specs.Answers.{Takes, Ends, IsCrowded, IsWorn, Releases, PassesOn}
 use Rattle.cqs_rule_laws.specs.CallRule.{IsReady}
 use Rattle.cqs_semaphore.specs.Calls.{CallRule, IsMine}
 use Rattle.cqs_semaphore.specs.Owed.{owed_after}
@@ -75,6 +78,12 @@ module _ {T : Type 0} where
   pub took-waits : (v w : View Entry T) (number : Option ℕ) → Takes v number w → w.facts.waits ≡ v.facts.waits
   took-waits v w None t = t.rests.waits_are
   took-waits v w (Some k) t = t.2.waits_are
+
+  -- the waits after one that was refused
+  pub refused-waits : (v w : View Entry T) (e : AcquireError) → (IsErrOf {T = Acquired} (Err e) Worn → IsWorn v w)
+      → (IsErrOf {T = Acquired} (Err e) Crowded → IsCrowded v w) → w.facts.waits ≡ v.facts.waits
+  refused-waits v w Worn worn crowded = ap (λ (f : Facts). f.waits) (worn refl).facts_are
+  refused-waits v w Crowded worn crowded = ap (λ (f : Facts). f.waits) (crowded refl).crowded.facts_are
 
   -- what is owed after a resumption, and the waits then
   pub ends-owing : (v w : View Entry T) (held : ℕ) (waits : List ℕ) (r : Released) → Ends v held waits r w

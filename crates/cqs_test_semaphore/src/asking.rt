@@ -78,7 +78,7 @@ fn ask_ready(
         "try" => caller.try_acquire()?,
         "poll" => caller.poll(alloc, number)?,
         "cancel" => caller.cancel(alloc, number)?,
-        "release" => caller.release(),
+        "release" => caller.release()?,
         "state" => Answer::State(caller.state()),
         _ => return Ok(None),
     }))

@@ -8,7 +8,7 @@ ghost use Rattle.cqs_semaphore.specs.Owed.{owed_after};
 ghost use Rattle.cqs_test_semaphore.specs.Callers.{Stands, HasParted, IsTaken, OwesJust};
 
 use crate::answers::Answer;
-use cqs_rule::{Config, MakeError, Under, Wait};
+use cqs_rule::{AcquireError, Config, MakeError, Under, Wait};
 use cqs_semaphore::{Acquired, CancelAnswer, Permit, Polled, Released, SemPass, Semaphore, Tried};
 use std::alloc::{AllocError, Global};
 
@@ -119,20 +119,23 @@ impl Caller {
     }
 
     /// Gives back the permit that came last.
-    pub fn release(&mut self) -> Answer
+    pub fn release(&mut self) -> Result<Answer, AllocError>
         requires stands { Stands self.old }
         requires free { self.old.under ≡ None }
-        ensures { Stands self.new }
+        ensures { OnOk result (Stands self.new) }
     {
         if self.pass.held() == 0 {
-            return Answer::Refused;
+            return Ok(Answer::Refused);
         }
         let Some(permit) = self.permits.pop() else {
-            return Answer::Refused;
+            return Ok(Answer::Refused);
         };
         match self.semaphore.release(&mut self.pass, permit) {
-            Ok(released) => self.keep(released),
-            Err(_) => unreachable!(),
+            Ok(released) => Ok(self.keep(released)),
+            Err((permit, _)) => {
+                self.permits.push(permit)?;
+                Ok(Answer::Failed(AcquireError::Crowded))
+            }
         }
     }
 

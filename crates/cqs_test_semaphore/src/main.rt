@@ -7,11 +7,11 @@
 //! | line | what is asked, and what may be answered |
 //! |---|---|
 //! | `semaphore 1 2 4 6` | one of so many permits, passes, waits and slots: `Ok`, `BadConfig` |
-//! | `acquire` | `Now`, `Now by 3`, `Later 3`, `Worn` |
+//! | `acquire` | `Now`, `Now by 3`, `Later 3`, `Worn`, `Crowded` |
 //! | `try` | `Got`, `Busy`, `Contended 1 0` |
 //! | `poll 3` | at the wait 3: `Granted`, `Pending` |
 //! | `cancel 3` | of the wait 3: `Cancelled`, `Cancelled, owing from 63`, `TooLate` |
-//! | `release` | of the permit that came last: `Freed`, `Sent 3`, `Left 3`, `Void 3`, `Under 63` |
+//! | `release` | of the last permit: `Freed`, `Sent 3`, `Left 3`, `Void 3`, `Under 63`, `Crowded` |
 //! | `finish` | of what is owed: the same |
 //! | `state`, `held`, `waits`, `owes`, `sole` | a number, or `true` or `false` |
 //!
@@ -30,7 +30,7 @@ use std::fs;
 use std::rt::Files;
 
 /// The files of calls, each of which ends with `.calls`.
-const FILES: [&str; 3] = ["sizes", "calls", "random"];
+const FILES: [&str; 4] = ["sizes", "calls", "slots", "random"];
 
 const SMALL: Config = Config {
     passes: 1,

@@ -1,9 +1,8 @@
-use Rattle.std.proofs.Common.{All, ap, subst, sym}
+use Rattle.std.proofs.Common.{All, subst, sym}
 use Rattle.std.proofs.lemmas.List.Elements.{All-push}
-use Rattle.cqs_rule_laws.specs.declared.view.Facts.{Facts}
 use Rattle.cqs_rule.specs.Passes.{pass_view}
 use Rattle.cqs_rule.specs.Waits.{HasWait}
-use Rattle.cqs_test_semaphore.proofs.Kept.{kept-same, kept-more, took-waits, stands-ready}
+use Rattle.cqs_test_semaphore.proofs.Kept.{kept-same, kept-more, refused-waits, took-waits, stands-ready}
 use Rattle.cqs_test_semaphore.proofs.caller.Caller.acquire.Goals as goal
 
 pub returns-in_ok-push-in-Ok-Now : goal.returns-in_ok-push-in-Ok-Now
@@ -24,5 +23,5 @@ returns-in_ok-push-in-Ok-Later c =
 pub returns-in-Err : goal.returns-in-Err
 returns-in-Err c =
     stands-ready _ c.requires.free c.acquire.ensures.belongs c.acquire.ensures.ready
-    (kept-same _ _ _ _ _ c.acquire.ensures.called (ap (λ (f : Facts). f.waits) c.in-Err.ensures.worn.facts_are)
+    (kept-same _ _ _ _ _ c.acquire.ensures.called (refused-waits _ _ _ c.in-Err.ensures.worn c.in-Err.ensures.crowded)
     c.requires.stands.waits)

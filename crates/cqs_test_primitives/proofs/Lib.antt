@@ -3,3 +3,4 @@ pub mod MutexWaits
 pub mod PoolHands
 pub mod PoolWaits
 pub mod RoundSplits
+pub mod Claims

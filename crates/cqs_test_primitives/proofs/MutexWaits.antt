@@ -13,6 +13,7 @@ use Rattle.cqs_rule.proofs.Places.{has-wait-called, has-wait-on}
 use Rattle.cqs_semaphore.specs.declared.answers.Released.TheVariants.{Sent}
 use Rattle.cqs_mutex.specs.declared.answers.TriedLock.TheVariants.{Busy}
 use Rattle.cqs_mutex.specs.Calls.{HasTried, HasUnlocked}
+use Rattle.cqs_test_primitives.proofs.Claims.{wait-claimed}
 
 module _ {T : Type 0} where
   pub wait-swapped : (laid : List (ℕ × Option (Kept T))) (v w : View Entry (Kept T)) (wait : Wait) → Swapped laid v w
@@ -29,4 +30,4 @@ module _ {T : Type 0} where
       → HasWait v wait → HasWait w wait
   wait-sent value v w k wait u h =
       has-wait-called semaphore_object u.between w _ _ wait u.called.called u.releases.1.1.waits_are
-      (wait-swapped _ v u.between wait u.laid h)
+      (wait-swapped _ u.claimed u.between wait u.laid (wait-claimed semaphore_object 1 v u.claimed wait u.claims h))

@@ -12,6 +12,7 @@ use Rattle.cqs_rule.proofs.Places.{has-wait-called, has-wait-on}
 use Rattle.cqs_pool.specs.declared.answers.Placed.TheVariants.{Sent}
 use Rattle.cqs_pool.specs.Pool.{pool_object}
 use Rattle.cqs_pool_values.specs.Calls.{HasPut}
+use Rattle.cqs_test_primitives.proofs.Claims.{wait-claimed}
 
 module _ {T : Type 0} where
   wait-swapped : (laid : List (ℕ × Option (Kept T))) (v w : View PoolEntry (Kept T)) (wait : Wait) → Swapped laid v w
@@ -25,4 +26,4 @@ module _ {T : Type 0} where
       → HasPut e value v (Sent k) w → HasWait v wait → HasWait w wait
   wait-sent e value v w k wait p h =
       has-wait-called pool_object p.between w _ _ wait p.called.called p.ends.1.waits_are
-      (wait-swapped _ v p.between wait p.laid h)
+      (wait-swapped _ p.claimed p.between wait p.laid (wait-claimed pool_object 1 v p.claimed wait p.claims h))

@@ -16,11 +16,12 @@ use std::sync::Wait as MayWait;
 use std::thread::{self, Threads};
 use std::time::Instant;
 
-/// One pass for each thread and one besides, and as many waits as a queue may have.
+/// One pass for each thread and one besides, and as many waits as a queue may have, on slots for
+/// those who wait at once.
 const CONFIG: Config = Config {
     passes: 5,
-    limit: 1 << 20,
-    slots: 12,
+    limit: 1 << 36,
+    slots: 32,
 };
 
 // Looks at the wait until it was served.

@@ -21,7 +21,7 @@ use std::time::Instant;
 const ROOM: u32 = 64;
 
 /// So many calls for room there may be.
-const LIMIT: u64 = 1 << 20;
+const LIMIT: u64 = 1 << 36;
 
 /// What each letter says.
 const WORD: u64 = 1;

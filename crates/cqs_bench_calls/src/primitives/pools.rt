@@ -22,11 +22,12 @@ use std::time::Instant;
 /// So many elements.
 const ELEMENTS: u32 = 4;
 
-/// A pass for each of eight threads, and one besides.
+/// A pass for each of eight threads and one besides, and as many takes as a queue may have, on
+/// slots for those who wait at once.
 const CONFIG: Config = Config {
     passes: 9,
-    limit: 1 << 20,
-    slots: 24,
+    limit: 1 << 36,
+    slots: 64,
 };
 
 // Looks at the wait until it was served.

@@ -12,11 +12,11 @@ use std::time::Instant;
 /// So many waiters stand in line where rounds are made behind them.
 const LIVE: u64 = 1000;
 
-/// One pass, and as many waits as a queue may have.
+/// As many waits as a queue may have, on slots for those who stand in line at once.
 const CONFIG: Config = Config {
     passes: 5,
-    limit: 1 << 20,
-    slots: 12,
+    limit: 1 << 36,
+    slots: 64,
 };
 
 /// What a round is.

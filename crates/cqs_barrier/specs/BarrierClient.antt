@@ -309,6 +309,7 @@ barrier-client parties some low = record {
       (record theirs { held = theirs.held + many }) words log handed shown apart idle idle' has
       there enough refl refl refl refl;
   silent = silent-step;
+  quiet = record { drawing = λ p k payload. refl; passing = λ p k payload. refl };
   sound = λ c words log handed shown. shown.barrier.sound;
   legal_shown = λ c words log handed shown. shown.barrier.legal;
   held_fits = λ c words log handed p has shown there.

@@ -475,6 +475,7 @@ latch-client mode size = record {
   shares = λ c from to many mine theirs words log handed shows apart idle idle' has there enough.
       shares-latch mode size c from to many mine theirs words log shows apart has there enough;
   silent = silent-step;
+  quiet = record { drawing = λ p k payload. refl; passing = λ p k payload. refl };
   sound = λ c words log handed shows. core-sound (latch_shown mode size c words log) shows.core;
   legal_shown = λ c words log handed shows. shows.core.legal;
   held_fits = λ c words log handed p has shows there.

@@ -391,6 +391,7 @@ pool-client size = record {
   shares = λ c from to many mine theirs words log handed shows apart idle idle' has there enough.
       shares-pool size c from to many mine theirs log shows apart has there enough;
   silent = silent-step;
+  quiet = record { drawing = λ p k payload. refl; passing = λ p k payload. refl };
   sound = λ c words log handed shows. shows.is_pool.sound;
   legal_shown = λ c words log handed shows. shows.is_pool.legal;
   held_fits = λ c words log handed p has shows there.

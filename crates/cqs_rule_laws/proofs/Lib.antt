@@ -46,6 +46,7 @@ pub mod Causes
 pub mod SegmentSteps
 pub mod Retiring
 pub mod PassedOver
+pub mod Jumps
 pub mod Finals
 pub mod Near
 pub mod StandStill

@@ -5,7 +5,7 @@ use Rattle.cqs_core.specs.declared.cells.CoreCell.{CoreCell}
 use Rattle.cqs_core.specs.declared.doings.Doing.TheVariants as doing
 use Rattle.cqs_core.specs.QueueLine.{door}
 use Rattle.cqs_core.specs.QueueSound.{IsSound}
-use Rattle.cqs_core.specs.QueueSteps.{QueueStep, reaches, begins, puts, row_of, StepRow, at_counter, at_cell, Cost, no_cost, one_owed, one_element, payload_told, IsOpenStep}
+use Rattle.cqs_core.specs.QueueSteps.{QueueStep, reaches, passes_over, begins, puts, row_of, StepRow, at_counter, at_cell, Cost, no_cost, one_owed, one_element, payload_told, IsOpenStep}
 use Rattle.cqs_rule_laws.specs.declared.view.Has.{Has}
 use Rattle.cqs_rule_laws.specs.Hidden.{Hidden, hidden_after, has_after, now_may_draw, has_both, has_none, hands_over}
 use Rattle.cqs_rule_laws.specs.Lists.{NamesOnly}
@@ -52,6 +52,12 @@ abbrev pub begun_by : Cost → QueueStep
 begun_by no_cost = reaches
 begun_by one_owed = begins
 begun_by one_element = puts
+
+-- The object shows no entry where a number is drawn for a resumption that is owed, nor where the
+-- cell of one is passed over.
+pub record IsQuiet {E : Type 0} (object : Object E) : Type 0 where
+  pub drawing : (p k payload : ℕ) → object.entries reaches p k payload ≡ []
+  pub passing : (p k payload : ℕ) → object.entries passes_over p k payload ≡ []
 
 module _ {E S : Type 0} (object : Object E) (primitive : Primitive E S) where
   -- What a client owes for its value slots.
@@ -129,6 +135,8 @@ module _ {E S : Type 0} (object : Object E) (primitive : Primitive E S) where
     -- a step of the queue appends no entry that names another pass
     pub silent : (s : QueueStep) (p k payload : ℕ)
         → NamesOnly object.names p (object.entries s p k payload)
+    -- and none where a resumption goes on past a number
+    pub quiet : IsQuiet object
     -- the queue part is sound, and the history legal
     pub sound : (c : Hidden) (words : List ℕ) (log : List E) (handed : List (ℕ × S))
         → primitive.shows c words log handed

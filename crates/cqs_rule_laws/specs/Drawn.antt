@@ -1,22 +1,25 @@
 -- How many numbers were drawn to resume at, as a pass knows that is alone, and what that says of a
 -- cell.
-use Rattle.std.specs.Prelude.{◌≡◌, ◌≢◌, ℕ, ◌+◌, ◌<◌, ◌≤◌, ◌==◌, Bool, true, false, List, count_by}
+use Rattle.std.specs.Prelude.{◌≡◌, ◌≢◌, ℕ, ◌+◌, ◌-◌, ◌<◌, ◌≤◌, ◌==◌, true, List, [], ◌∷◌, if◌then◌else◌}
 use Rattle.cqs_core.specs.declared.cells.CoreState.{CoreState}
 use Rattle.cqs_core.specs.declared.cells.CoreState.TheVariants as state
 use Rattle.cqs_core.specs.declared.doings.Doing.TheVariants as doing
 use Rattle.cqs_rule_laws.specs.declared.view.Sighting.{Sighting}
-use Rattle.cqs_rule_laws.specs.declared.view.Sighting.TheVariants.{Cell, Word}
+use Rattle.cqs_rule_laws.specs.declared.view.Sighting.TheVariants.{Cell, Word, Jump}
 use Rattle.cqs_rule_laws.specs.declared.view.View.{View}
 use Rattle.cqs_rule_laws.specs.Layout.{resumes_place}
 
--- the step that found this drew a number to resume at
-abbrev pub is_draw : Sighting → Bool
-is_draw (Cell number word) = false
-is_draw (Word place word) = place == resumes_place
+-- How many numbers to resume at were drawn by the step that found this: one by a sum on the resume
+-- counter, and by a jump that was made all that it passed over.
+abbrev pub draws_of : Sighting → ℕ
+draws_of (Cell number word) = 0
+draws_of (Word place word) = if place == resumes_place then 1 else 0
+draws_of (Jump from to word) = if word == from then to - from else 0
 
--- how many numbers to resume at were drawn by the steps that found these
+-- and by the steps that found these
 abbrev pub draws_in : List Sighting → ℕ
-draws_in found = count_by is_draw found
+draws_in [] = 0
+draws_in (x ∷ xs) = draws_of x + draws_in xs
 
 -- So many numbers were drawn to resume at, and no pass is on its way to the cell of the number k:
 -- whether a resumption has come there, by the state of the cell.

@@ -30,6 +30,7 @@ pub mod Called
 pub mod CallRule
 pub mod Causes
 pub mod PassedOver
+pub mod Jumped
 pub mod Crew
 pub mod Alone
 pub mod Configured

@@ -1,5 +1,5 @@
 -- A search that came upon a number whose segment wasn't made.
-use Rattle.std.proofs.Common.{ℕ, ◌/◌, ◌≤◌, ◌++◌, length, ap, sym, ◌∙◌, subst, append_assoc, arith}
+use Rattle.std.proofs.Common.{◌≡◌, ℕ, ◌/◌, ◌≤◌, List, ◌++◌, length, ap, sym, ◌∙◌, subst, append_assoc, ⊎_elim, inl, inr, arith}
 use Rattle.cqs_rule_laws.specs.declared.view.View.{View}
 use Rattle.cqs_rule_laws.specs.Ample.{IsAmple}
 use Rattle.cqs_rule_laws.specs.Object.{Object}
@@ -9,7 +9,11 @@ use Rattle.cqs_segment.proofs.Walks.{longer, spares-left}
 use Rattle.cqs_rule.specs.Claims.{Crowds}
 use Rattle.cqs_rule.proofs.Claims.{moved-then, taken-later}
 use Rattle.cqs_rule.proofs.Segments.{none-spare}
-use Rattle.cqs_find.specs.Finds.{IsCrowded, Searched}
+use Rattle.cqs_segment.specs.Finds.{WasLast, SawLive}
+use Rattle.cqs_segment.proofs.Ahead.{live-after}
+use Rattle.cqs_find.specs.declared.found.Found.{Found}
+use Rattle.cqs_find.specs.declared.found.Found.TheVariants.{At, Over}
+use Rattle.cqs_find.specs.Finds.{IsCrowded, Searched, SeesAhead}
 use Rattle.cqs_find.proofs.Searches.{searched-far}
 
 -- no slot was free
@@ -67,3 +71,12 @@ pub looked-again : {E S : Type 0} (u x y : View E S) (most : ℕ) → Left x.fac
     → LookedAt most x y → Left y.facts.spare_slots u.facts.duties u y
 looked-again u x y most left looked =
     moved-then u x y u.facts.duties x.facts.spare_slots left (looked.0, looked.2)
+
+-- what a later part of a call saw ahead
+pub ahead-later : {E S : Type 0} (v u w : View E S) (found : Found) (heads : List (ℕ × ℕ))
+    → length v.segments.homes ≤ length u.segments.homes → u.facts.heads ≡ v.facts.heads ++ heads
+    → SeesAhead found u w → SeesAhead found v w
+ahead-later v u w (At place) heads more is saw = tt
+ahead-later v u w (Over next) heads more is saw = ⊎_elim
+    (λ (last : WasLast (next / 32) u w). inl (record { made = last.made; last = let l = last.last in omega arith }))
+    (λ (live : SawLive (next / 32) u w). inr (live-after (next / 32) v u w heads is live)) saw

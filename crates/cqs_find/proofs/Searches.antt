@@ -1,13 +1,11 @@
 -- What a search leaves: a step from there tells as much as one from where it began.
-use Rattle.std.proofs.Common.{ℕ, ◌/◌, ◌≤◌, true, false, List, [], ◌++◌, length, refl, ap, subst, sym, ◌∙◌, arith}
+use Rattle.std.proofs.Common.{ℕ, ◌/◌, ◌≤◌, true, false, List, [], ◌++◌, length, refl, subst, sym, ◌∙◌, arith}
 use Rattle.std.proofs.lemmas.List.{append-nil}
 use Rattle.cqs_rule_laws.specs.declared.view.Spare.{Spare}
 use Rattle.cqs_rule_laws.specs.declared.view.View.{View}
 use Rattle.cqs_rule_laws.specs.Object.{Object}
 use Rattle.cqs_rule_laws.specs.Saw.{Saw}
 use Rattle.cqs_rule_laws.specs.SegmentSteps.{LeftBy}
-use Rattle.cqs_rule_laws.specs.Slots.{LaysNone}
-use Rattle.cqs_rule_laws.specs.Views.{IsSame}
 use Rattle.cqs_rule_laws.proofs.Calls.{same-here}
 use Rattle.cqs_segment.specs.Walks.{Left}
 use Rattle.cqs_rule.proofs.Claiming as claims

@@ -1,5 +1,5 @@
 -- What a search for a cell answers, and what it leaves of the pass that looked.
-use Rattle.std.specs.Prelude.{◌≡◌, ℕ, ◌+◌, ◌*◌, ◌/◌, ◌<◌, ◌≤◌, Bool, true, false, List, [], ◌++◌, length}
+use Rattle.std.specs.Prelude.{◌≡◌, ℕ, ◌*◌, ◌/◌, ◌<◌, ◌≤◌, Bool, true, false, List, [], ◌++◌, length}
 use Rattle.cqs_rule_laws.specs.declared.client.ClientWords.{Ghosts}
 use Rattle.cqs_rule.specs.declared.queue.Pass.{Pass}
 use Rattle.cqs_rule_laws.specs.declared.view.Facts.{Facts}
@@ -23,18 +23,26 @@ use Rattle.cqs_find.specs.declared.found.Found.TheVariants.{At, Over}
 -- a segment that is made was looked for
 abbrev pub FindsMade : {E S : Type 0} → ℕ → segment.Found → View E S → Type 0
 FindsMade s (segment_is.At x) w = segments.Finds s (segment_is.At x) w
-FindsMade s segment_is.Over w = segments.Finds s segment_is.Over w
+FindsMade s (segment_is.Over next) w = segments.Finds s (segment_is.Over next) w
 FindsMade s segment_is.Far w = ⊥
 
 module _ {E S : Type 0} where
-  -- The segment of the number k was taken out, and isn't the last: all cells from k to below `next`
-  -- are settled. So k is none of the numbers that the pass works or waits at and isn't to pass
-  -- over.
+  -- The segment of the number k was taken out, and so were all before that of `next`, which is
+  -- made: all cells from k to below `next` are settled. So k is none of the numbers that the pass
+  -- works or waits at and isn't to pass over.
   pub record IsTakenOut (k next : ℕ) (v : View E S) : Type 0 where
-    pub next_is : next ≡ 32 * (k / 32 + 1)
-    pub out : Has (k / 32) v.segments.outs
-    pub before : k / 32 + 1 < length v.segments.homes
+    pub segment : ℕ
+    pub next_is : next ≡ 32 * segment
+    pub after : k / 32 < segment
+    pub made : segment < length v.segments.homes
+    pub out : segments.HaveLeft (k / 32) segment v
     pub own : OwnStand v v
+
+  -- where the segment was taken out: the head of that of `next` was found live at a step of this
+  -- call, or the pass knew of no later one before
+  abbrev pub SeesAhead : Found → View E S → View E S → Type 0
+  SeesAhead (At place) v w = Unit {0}
+  SeesAhead (Over next) v w = segments.SeesAhead (segment_is.Over (next / 32)) v w
 
   -- The cell of this number stands at the place, as the pass knows now; or its segment was taken
   -- out.
@@ -86,6 +94,14 @@ module _ {E S : Type 0} (object : Object E) where
     pub spares : List Spare
     pub search : IsSearch k v heads spares
     pub saw : Saw object v (facts_searched [] heads spares v.facts) [] w
+
+-- the segment ahead is that of the number
+abbrev pub IsSameAhead : segment.Found → Found → Type 0
+IsSameAhead (segment_is.At x) (At place) = Unit {0}
+IsSameAhead (segment_is.At x) (Over next) = ⊥
+IsSameAhead (segment_is.Over s) (At place) = ⊥
+IsSameAhead (segment_is.Over s) (Over next) = next / 32 ≡ s
+IsSameAhead segment_is.Far found = ⊥
 
 module _ {C S E : Type 0} {g : Ghosts C S E} where
   abbrev pub HasSearched : ℕ → Pass C S E g → Pass C S E g → Type 0

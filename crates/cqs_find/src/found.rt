@@ -1,7 +1,7 @@
 //! The search for the segment of a number.
 
 ghost use Rattle.std.specs.Prelude.{◌≡◌, ◌⊎◌, ◌/◌, ◌<◌, IfOk, OnErr};
-ghost use Rattle.cqs_find.specs.Finds.{Finds, FindsMade, HasSearched, IsCrowded};
+ghost use Rattle.cqs_find.specs.Finds.{Finds, FindsMade, HasSearched, IsCrowded, IsSameAhead, SeesAhead};
 ghost use Rattle.cqs_rule_laws.specs.Lists.{Has};
 ghost use Rattle.cqs_rule_laws.specs.SegmentSteps.{HasDrawn, OwnStand};
 ghost use Rattle.cqs_rule.specs.Passes.{pass_view, IsOf};
@@ -15,7 +15,8 @@ use cqs_rule::{
 pub enum Found {
     /// At this place.
     At(Place),
-    /// Its segment was taken out: all cells from it to below this number are settled.
+    /// Its segment was taken out: all cells from it to below this number are settled. That is the
+    /// first number of a segment whose head was found live, or else of the last one.
     Over(u64),
 }
 
@@ -34,6 +35,8 @@ pub fn find<C: ClientWords>(
         ⊎ Has index (pass_view pass.old).facts.waits }
     ensures belongs { IsOf queue.now pass.new }
     ensures finds { IfOk result (λ found. Finds index (pass_view pass.new) found) }
+    ensures ahead { IfOk result (λ found. SeesAhead found (pass_view pass.old)
+        (pass_view pass.new)) }
     ensures searched { HasSearched index pass.old pass.new }
     ensures crowded { OnErr result (IsCrowded index (pass_view pass.old) (pass_view pass.new)) }
 {
@@ -63,6 +66,7 @@ fn keep<C: ClientWords>(
     requires own { OwnStand (pass_view pass.old) (pass_view pass.old) }
     ensures belongs { IsOf queue.now pass.new }
     ensures finds { Finds index (pass_view pass.new) result }
+    ensures ahead { IsSameAhead segment result }
     ensures same { pass_view pass.new ≡ pass_view pass.old }
 {
     match segment {
@@ -72,7 +76,7 @@ fn keep<C: ClientWords>(
             queue.keep_place(pass, at);
             Found::At(at)
         }
-        FoundSegment::Over => Found::Over((index / CELLS + 1) * CELLS),
+        FoundSegment::Over(next) => Found::Over(next * CELLS),
         FoundSegment::Far => unreachable!(),
     }
 }

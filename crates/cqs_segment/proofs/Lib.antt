@@ -4,3 +4,4 @@ mod Extensions
 mod Leavings
 mod Taken
 pub mod Walks
+pub mod Ahead

@@ -1,5 +1,5 @@
 -- Where a segment is told to be, how many of its cells are counted, and what became of it.
-use Rattle.std.specs.Prelude.{◌≡◌, ◌≢◌, ℕ, ◌+◌, ◌/◌, ◌<◌, ◌≤◌, ◌++◌, [], ◌∷◌, List, length}
+use Rattle.std.specs.Prelude.{◌≡◌, ◌≢◌, ◌⊎◌, ℕ, ◌+◌, ◌/◌, ◌<◌, ◌≤◌, ◌^◌, ◌++◌, [], ◌∷◌, List, length}
 use Rattle.cqs_words.specs.declared.segment.TailWord.{TailWord}
 use Rattle.cqs_words.specs.Head.{head_word}
 use Rattle.cqs_slots.specs.Slots.{IsHome}
@@ -12,13 +12,18 @@ use Rattle.cqs_segment.specs.declared.walk.Found.TheVariants.{At, Over, Far}
 use Rattle.cqs_segment.specs.declared.leaving.Retired.{Retired}
 use Rattle.cqs_segment.specs.declared.leaving.Retired.TheVariants.{Out, Gone, Last, Early}
 
+-- all segments from this one to before that one were taken out
+abbrev pub HaveLeft : {E S : Type 0} → ℕ → ℕ → View E S → Type 0
+HaveLeft s next w = (j : ℕ) → s ≤ j → j < next → Has j w.segments.outs
+
 -- The segment was made in this slot, which is its home for good, and stood there when that was
--- loaded; or it was taken out, and isn't the last; or it wasn't made when the tail was loaded, and
--- each segment at which the pass waits was.
+-- loaded; or it was taken out with all before `next`, which was made; or it wasn't made when the
+-- tail was loaded, and each segment at which the pass waits was.
 abbrev pub Finds : {E S : Type 0} → ℕ → Found → View E S → Type 0
 Finds s (At x) w =
     IsHome w.segments.homes s x × (x < w.slots) × (Has s w.segments.outs → ⊥)
-Finds s Over w = Has s w.segments.outs × (s + 1 < length w.segments.homes)
+Finds s (Over next) w =
+    HaveLeft s next w × (s < next) × (next < length w.segments.homes) × (next < 2 ^ 36)
 Finds s Far w =
     (length w.segments.homes ≤ s)
     × ((k : ℕ) → Has k w.facts.waits → k / 32 < length w.segments.homes)
@@ -27,10 +32,39 @@ Finds s Far w =
 abbrev pub IsNear : {E S : Type 0} → TailWord → View E S → Type 0
 IsNear last v = (k : ℕ) → HasDrawn v k → k / 32 ≤ last.id + 1
 
--- the segment was taken out, if its home is one of these slots
-abbrev pub HasLeftFrom : {E S : Type 0} → ℕ → ℕ → ℕ → View E S → View E S → Type 0
-HasLeftFrom first end s v w =
-    (x : ℕ) → IsHome v.segments.homes s x → first ≤ x → x < end → Has s w.segments.outs
+-- of the segments from this one to before `next` each was taken out whose home is one of these
+-- slots
+abbrev pub HaveLeftFrom : {E S : Type 0} → ℕ → ℕ → ℕ → ℕ → View E S → View E S → Type 0
+HaveLeftFrom first end s next v w =
+    (j x : ℕ) → s ≤ j → j < next → IsHome v.segments.homes j x → first ≤ x → x < end
+    → Has j w.segments.outs
+
+-- Of the segments after this one `then` is the nearest that is known to stand, where `next` was and
+-- this head was found: no other before it is named by the head.
+pub record IsNearer (s next head then : ℕ) : Type 0 where
+  pub order : s < then
+  pub near : then ≤ next
+  pub named : (then ≡ next) ⊎ (head ≡ head_word then 2)
+  pub none : (j : ℕ) → s < j → j < then → head ≢ head_word j 2
+
+-- the head of some slot was found at a step of this call, live with this id
+pub record SawLive {E S : Type 0} (id : ℕ) (v w : View E S) : Type 0 where
+  pub slot : ℕ
+  pub before : List (ℕ × ℕ)
+  pub then : List (ℕ × ℕ)
+  pub heads : w.facts.heads ≡ v.facts.heads ++ (before ++ (slot, head_word id 2) ∷ then)
+
+-- the segment is made, and the pass knew of no later one before this call
+pub record WasLast {E S : Type 0} (id : ℕ) (v w : View E S) : Type 0 where
+  pub made : id < length w.segments.homes
+  pub last : length v.segments.homes ≤ id + 1
+
+-- where the segment was taken out: the head of the one before which all were was found live at a
+-- step of this call, or no later one was known before
+abbrev pub SeesAhead : {E S : Type 0} → Found → View E S → View E S → Type 0
+SeesAhead (At x) v w = Unit {0}
+SeesAhead (Over next) v w = WasLast next v w ⊎ SawLive next v w
+SeesAhead Far v w = Unit {0}
 
 -- The segment left by this call, whose exchange found its head live; or it had left before, and the
 -- exchange found another head; it is the last; or fewer than 32 cells were loaded as counted: where

@@ -1,10 +1,10 @@
 //! Where a segment stands.
 
-ghost use Rattle.std.specs.Prelude.{◌≡◌, ◌+◌, ◌-◌, ◌<◌, ◌≤◌, ◌^◌, [], length, IfSome, IfNone};
+ghost use Rattle.std.specs.Prelude.{◌≡◌, ◌⊎◌, ◌+◌, ◌-◌, ◌<◌, ◌≤◌, ◌^◌, [], length, IfErr, IfOk};
 ghost use Rattle.cqs_words.specs.Segment.{TailFits, packed_tail};
 ghost use Rattle.cqs_slots.specs.Told.{TailFound};
 ghost use Rattle.cqs_rule_laws.specs.SegmentSteps.{LeftBy, OwnStand};
-ghost use Rattle.cqs_segment.specs.Finds.{Finds, HasLeftFrom, IsNear};
+ghost use Rattle.cqs_segment.specs.Finds.{Finds, HaveLeftFrom, IsNear, IsNearer, SawLive, SeesAhead};
 ghost use Rattle.cqs_segment.specs.Walks.{IsWalker, LookedAt};
 
 use crate::steps::{load_head, load_tail};
@@ -17,8 +17,8 @@ use cqs_words::{HeadTag, HeadWord, TailWord};
 pub enum Found {
     /// In this slot, as it was loaded.
     At(u32),
-    /// Nowhere any more: it was taken out.
-    Over,
+    /// Nowhere any more: it was taken out, and so were all that come after it before this one.
+    Over(u64),
     /// Nowhere yet: it wasn't made when the tail was loaded.
     Far,
 }
@@ -43,41 +43,70 @@ pub fn last<C: ClientWords>(
     load_tail::<C>(words, seat)
 }
 
-// Looks through the heads of these slots for a segment that isn't the last.
+// The nearest segment after this one that is known to stand, if this head was found besides: the
+// one that it names, where that comes before `next`.
+#[inline]
+fn nearer(head: u64, id: u64, next: u64) -> u64
+    requires order { id < next }
+    requires small { next < 2 ^ 36 }
+    ensures nearer { IsNearer id next head result }
+{
+    match HeadWord::unpack(head) {
+        Some(
+            HeadWord {
+                id: live,
+                tag: HeadTag::Live,
+            },
+        ) if id < live && live < next => live,
+        _ => next,
+    }
+}
+
+// Looks through the heads of these slots for a segment that isn't the last. Where none names it, it
+// answers the nearest one after it that one of them names, or that was known before.
 fn scan<C: ClientWords>(
     words: &Shared<Option<C::Slot>, View<C::Entry, C::Slot>, Key<C>, Rule<C>>,
     seat: &mut Seat<Option<C::Slot>, View<C::Entry, C::Slot>>,
     first: u32,
     end: u32,
     id: u64,
-) -> Option<u32>
+    known: u64,
+) -> Result<u32, u64>
     requires table { seat.old.table_id ≡ words.now.table_id }
     requires walker { IsWalker words.now.table_id.words seat.old.me.0 }
     requires order { first ≤ end }
     requires inside { end ≤ seat.old.me.0.slots }
-    requires small { id < 2 ^ 36 }
-    requires before { id + 1 < length seat.old.me.0.segments.homes }
+    requires small { known < 2 ^ 36 }
+    requires after { id < known }
+    requires made { known < length seat.old.me.0.segments.homes }
     requires own { OwnStand seat.old.me.0 seat.old.me.0 }
     ensures table { seat.new.table_id ≡ seat.old.table_id }
-    ensures found { IfSome result (λ slot. Finds id (Found.At slot) seat.new.me.0) }
-    ensures none { IfNone result (HasLeftFrom first end id seat.old.me.0 seat.new.me.0) }
+    ensures found { IfOk result (λ slot. Finds id (Found.At slot) seat.new.me.0) }
+    ensures none { IfErr result (λ next. HaveLeftFrom first end id next seat.old.me.0
+        seat.new.me.0) }
+    ensures nearest { IfErr result (λ next. (id < next) × (next ≤ known)
+        × ((next ≡ known) ⊎ SawLive next seat.old.me.0 seat.new.me.0)) }
     ensures own { OwnStand seat.new.me.0 seat.new.me.0 }
     ensures looked { LookedAt (end - first) seat.old.me.0 seat.new.me.0 }
     ensures bare { seat.new.me.1 ≡ seat.old.me.1 }
 {
     let tag = HeadTag::Live;
     let live = HeadWord { id, tag }.pack();
+    let mut next = known;
     for slot in first..end {
-        if load_head::<C>(words, seat, slot) == live {
-            return Some(slot);
+        let head = load_head::<C>(words, seat, slot);
+        if head == live {
+            return Ok(slot);
         }
+        next = nearer(head, id, next);
     }
-    None
+    Err(next)
 }
 
 /// Finds the segment of this number. It loads the tail first, and the heads only where the segment
-/// comes before the last one: so a segment that no head names had left. It begins to look where the
-/// segment would stand if no slot had been used again.
+/// comes before the last one: so a segment that no head names had left, and with it all before the
+/// nearest one that a head names, or else before the last. It begins to look where the segment
+/// would stand if no slot had been used again.
 pub fn find<C: ClientWords>(
     words: &Shared<Option<C::Slot>, View<C::Entry, C::Slot>, Key<C>, Rule<C>>,
     seat: &mut Seat<Option<C::Slot>, View<C::Entry, C::Slot>>,
@@ -90,6 +119,7 @@ pub fn find<C: ClientWords>(
     requires small { id < 2 ^ 36 }
     ensures table { seat.new.table_id ≡ seat.old.table_id }
     ensures finds { Finds id result seat.new.me.0 }
+    ensures ahead { SeesAhead result seat.old.me.0 seat.new.me.0 }
     ensures own { OwnStand seat.new.me.0 seat.new.me.0 }
     ensures looked { LookedAt slots seat.old.me.0 seat.new.me.0 }
     ensures bare { seat.new.me.1 ≡ seat.old.me.1 }
@@ -102,11 +132,11 @@ pub fn find<C: ClientWords>(
         return Found::Far;
     }
     let guess = (id % u64::from(slots)) as u32;
-    if let Some(slot) = scan::<C>(words, seat, guess, slots, id) {
-        return Found::At(slot);
-    }
-    match scan::<C>(words, seat, 0, guess, id) {
-        Some(slot) => Found::At(slot),
-        None => Found::Over,
+    match scan::<C>(words, seat, guess, slots, id, last.id) {
+        Ok(slot) => Found::At(slot),
+        Err(near) => match scan::<C>(words, seat, 0, guess, id, near) {
+            Ok(slot) => Found::At(slot),
+            Err(next) => Found::Over(next),
+        },
     }
 }

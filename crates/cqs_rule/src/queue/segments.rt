@@ -6,7 +6,7 @@ ghost use Rattle.cqs_words.specs.Segment.{TailFits, packed_tail};
 ghost use Rattle.cqs_slots.specs.Slots.{IsHome};
 ghost use Rattle.cqs_rule_laws.specs.SegmentSteps.{OwnStand};
 ghost use Rattle.cqs_slots.specs.Told.{TailFound};
-ghost use Rattle.cqs_segment.specs.Finds.{Finds, IsNear, Retires};
+ghost use Rattle.cqs_segment.specs.Finds.{Finds, IsNear, Retires, SeesAhead};
 ghost use Rattle.cqs_segment.specs.Slots.{Confirms, SawAllTaken};
 ghost use Rattle.cqs_segment.specs.Walks.{IsWalker, LookedAt};
 ghost use Rattle.cqs_rule.specs.Claims.{IsClaimer};
@@ -83,13 +83,16 @@ impl<C: ClientWords> Queue<C> {
         cqs_segment::last::<C>(&self.table.shared, &mut pass.seat)
     }
 
-    /// Where the segment stands: in a slot, or nowhere any more, or nowhere yet.
+    /// Where the segment stands: in a slot, or nowhere any more, or nowhere yet. Where it was taken
+    /// out, all before the segment that is answered were; and the head of that one was found live,
+    /// or the pass knew of no later one before.
     #[inline(always)]
     pub fn find_segment(&self, pass: &mut Pass<C>, id: u64) -> Found
         requires belongs { IsOf self.now pass.old }
         requires small { id < 2 ^ 36 }
         ensures belongs { IsOf self.now pass.new }
         ensures finds { Finds id result (pass_view pass.new) }
+        ensures ahead { SeesAhead result (pass_view pass.old) (pass_view pass.new) }
         ensures own { OwnStand (pass_view pass.new) (pass_view pass.new) }
         ensures looked { LookedAt (slot_count pass.old) (pass_view pass.old) (pass_view pass.new) }
     {
@@ -103,6 +106,7 @@ impl<C: ClientWords> Queue<C> {
                 requires small { id < 2 ^ 36 }
                 ensures table { result.0.table_id ≡ seat.table_id }
                 ensures finds { Finds id result.1 result.0.me.0 }
+                ensures ahead { SeesAhead result.1 seat.me.0 result.0.me.0 }
                 ensures own { OwnStand result.0.me.0 result.0.me.0 }
                 ensures looked { LookedAt self.entry.now.segment_slots seat.me.0 result.0.me.0 }
                 ensures bare { result.0.me.1 ≡ seat.me.1 }
@@ -125,6 +129,7 @@ impl<C: ClientWords> Queue<C> {
         requires small { id < 2 ^ 36 }
         ensures table { result.0.table_id ≡ seat.table_id }
         ensures finds { Finds id result.1 result.0.me.0 }
+        ensures ahead { SeesAhead result.1 seat.me.0 result.0.me.0 }
         ensures own { OwnStand result.0.me.0 result.0.me.0 }
         ensures looked { LookedAt self.now.segment_slots seat.me.0 result.0.me.0 }
         ensures bare { result.0.me.1 ≡ seat.me.1 }

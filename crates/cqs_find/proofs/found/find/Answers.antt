@@ -1,10 +1,10 @@
-use Rattle.std.proofs.Common.{◌/◌, subst, sym, ap, arith}
+use Rattle.std.proofs.Common.{◌/◌, ◌++◌, ◌∙◌, append_assoc, subst, sym, ap, arith}
 use Rattle.cqs_segment.proofs.Walks.{longer}
 use Rattle.cqs_rule.specs.Passes.{pass_view}
 use Rattle.cqs_rule.proofs.Segments.{walks}
-use Rattle.cqs_find.specs.Finds.{Searched}
-use Rattle.cqs_find.proofs.Far.{crowded-later, far-searched, is-crowded, looked-again}
-use Rattle.cqs_find.proofs.Numbers.{below-cells, found-made, made-found}
+use Rattle.cqs_find.specs.Finds.{Searched, SeesAhead}
+use Rattle.cqs_find.proofs.Far.{ahead-later, crowded-later, far-searched, is-crowded, looked-again}
+use Rattle.cqs_find.proofs.Numbers.{ahead-same, below-cells, found-made, made-found}
 use Rattle.cqs_find.proofs.Searches.{searched-few}
 use Rattle.cqs_find.proofs.found.find.Goals as goal
 
@@ -47,6 +47,22 @@ returns-in-Ok-clause-searched g c =
     (far-searched v u _ c.in-Far.ensures.looked g.C.ClientWords.object c.args.index y c.in-Far.ensures.finds.0
     (looked-again u x y _ c.make_segment.ensures.left c.find_segment-segment.ensures.looked))
 
+pub returns-in-Ok-clause-ahead : goal.returns-in-Ok-clause-ahead
+returns-in-Ok-clause-ahead g c =
+    let v = pass_view c.args.pass.now in
+    let u = pass_view c.find_segment.new.pass in
+    let x = pass_view c.make_segment.new.pass in
+    let y = pass_view c.find_segment-segment.new.pass in
+    let looked = c.in-Far.ensures.looked in
+    let made = c.make_segment.ensures.left in
+    subst (SeesAhead c.keep.result v) (sym c.keep.ensures.same)
+    (ahead-later v x y c.keep.result (looked.0 ++ made.0)
+    (let first = longer v u looked.2.segments in let then = longer u x made.1.segments in omega arith)
+    (ap (λ z. z.facts.heads) made.1.is
+    ∙ (ap (λ l. l ++ made.0) (ap (λ z. z.facts.heads) looked.2.is) ∙ append_assoc v.facts.heads looked.0 made.0))
+    (ahead-same c.find_segment-segment.result c.keep.result x y c.keep.ensures.ahead
+    c.find_segment-segment.ensures.ahead))
+
 pub keep-requires-in_default : goal.keep-requires-in_default
 keep-requires-in_default g c =
     let p = c.args.pass.now in
@@ -65,6 +81,9 @@ returns-in_default g c =
     let looked = c.find_segment.ensures.looked in record {
       belongs = c.keep-in_default.ensures.belongs;
       finds = c.keep-in_default.ensures.finds;
+      ahead = subst (SeesAhead c.keep-in_default.result v) (sym c.keep-in_default.ensures.same)
+          (ahead-same c.find_segment.result c.keep-in_default.result v (pass_view c.find_segment.new.pass)
+          c.keep-in_default.ensures.ahead c.find_segment.ensures.ahead);
       searched = subst (Searched g.C.ClientWords.object c.args.index v) (sym c.keep-in_default.ensures.same)
           (searched-few g.C.ClientWords.object c.args.index v (pass_view c.find_segment.new.pass) looked.0
           (walks c.args.queue.now c.args.pass.now c.requires.belongs).few looked.1 looked.2);

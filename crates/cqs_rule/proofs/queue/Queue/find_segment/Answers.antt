@@ -27,4 +27,4 @@ returns-clause-belongs g c =
     (search rules)
 
 pub returns-clause-own : goal.returns-clause-own
-returns-clause-own g c = c.replace_with.ensures.1.1.0
+returns-clause-own g c = c.replace_with.ensures.1.1.1.0

@@ -30,7 +30,8 @@ use Rattle.cqs_resume.specs.declared.resumed.Resumed.TheVariants as resumed
 use Rattle.cqs_resume.specs.Counting.{settles_at}
 use Rattle.cqs_resume.specs.Resumes.{Ended, GoesOn, Held, Resumes}
 use Rattle.cqs_resume.specs.Rounds.{all_heads, numbers}
-use Rattle.cqs_resume.proofs.Ends.{IsQuiet, ended-at, handed-back, held-on, drawn-few}
+use Rattle.cqs_rule_laws.specs.Client.{IsQuiet}
+use Rattle.cqs_resume.proofs.Ends.{ended-at, handed-back, held-on, drawn-few}
 use Rattle.cqs_barrier.specs.Barrier.{barrier_object}
 use Rattle.cqs_barrier.specs.Calls.{waiting_in}
 use Rattle.cqs_barrier.specs.Causes.{primitive_of, CellWas}

@@ -19,7 +19,8 @@ use Rattle.cqs_resume.specs.Counting.{settles_at}
 use Rattle.cqs_resume.specs.Meets.{HeldBack, Met}
 use Rattle.cqs_resume.specs.Resumes.{Ended, GoesOn, Held, Stopped, Resumes, most_passed_over, most_after_first}
 use Rattle.cqs_resume.specs.Rounds.{all_heads, numbers}
-use Rattle.cqs_resume.proofs.Ends.{IsQuiet, ended-at, handed-back, held-on, drawn-few, opened-few}
+use Rattle.cqs_rule_laws.specs.Client.{IsQuiet}
+use Rattle.cqs_resume.proofs.Ends.{ended-at, handed-back, held-on, drawn-few, opened-few}
 use Rattle.cqs_rule.specs.declared.queue.tokens.Under.{Under}
 use Rattle.cqs_rule_laws.specs.declared.view.Facts.{Facts}
 use Rattle.cqs_rule_laws.specs.declared.view.Sighting.TheVariants.{Cell, Word}

@@ -33,7 +33,8 @@ use Rattle.cqs_resume.specs.declared.resumed.Resumed.TheVariants as resumed
 use Rattle.cqs_resume.specs.Resumes as resume
 use Rattle.cqs_resume.specs.Resumes.{Ended, GoesOn, Held, Resumes, Stopped}
 use Rattle.cqs_resume.specs.Rounds.{Round, drawn_in, numbers, IsOpenedWith}
-use Rattle.cqs_resume.proofs.Ends.{IsQuiet, EndedAt, HeldOn, ended-at, held-on, handed-back, drawn-few, opened-few}
+use Rattle.cqs_rule_laws.specs.Client.{IsQuiet}
+use Rattle.cqs_resume.proofs.Ends.{EndedAt, HeldOn, ended-at, held-on, handed-back, drawn-few, opened-few}
 use Rattle.cqs_pool.specs.declared.answers.Placed.{Placed}
 use Rattle.cqs_pool.specs.declared.answers.Placed.TheVariants.{Sent, Left, Under}
 use Rattle.cqs_pool.specs.Answers.{Ends, HandsBack}

@@ -4,7 +4,7 @@ use Rattle.std.proofs.Common.{◌≡◌, ℕ, ◌+◌, ◌≤◌, Bool, true, fa
 use Rattle.std.proofs.lemmas.List.{append-nil}
 use Rattle.cqs_core.specs.declared.cells.CoreState.{CoreState}
 use Rattle.cqs_core.specs.declared.doings.Doing.TheVariants as doing
-use Rattle.cqs_core.specs.QueueSteps.{QueueStep, reaches, passes_over}
+use Rattle.cqs_core.specs.QueueSteps.{QueueStep}
 use Rattle.cqs_rule.specs.declared.queue.tokens.Under.{Under}
 use Rattle.cqs_rule.specs.Claims.{WantsSlot}
 use Rattle.cqs_rule.specs.Owed.{under_reached}
@@ -14,22 +14,27 @@ use Rattle.cqs_rule_laws.specs.declared.view.Sighting.TheVariants.{Cell}
 use Rattle.cqs_rule_laws.specs.declared.view.View.{View}
 use Rattle.cqs_rule_laws.specs.Called.{Called}
 use Rattle.cqs_rule_laws.specs.Causes.{cell_of, CellWas}
+use Rattle.cqs_rule_laws.specs.Client.{IsQuiet}
 use Rattle.cqs_rule_laws.specs.Exchanges.{FoundCell, HasCell}
 use Rattle.cqs_rule_laws.specs.Object.{Object, Primitive}
 use Rattle.cqs_rule_laws.specs.Saw.{WasFound}
 use Rattle.cqs_rule_laws.proofs.Causes.{Onward}
 use Rattle.cqs_rule_laws.proofs.Prefixes.{called-prefix}
 use Rattle.cqs_resume.specs.declared.resumed.Resumed.{Resumed}
+use Rattle.cqs_resume.specs.Leaps.{leap_seen}
 use Rattle.cqs_resume.specs.Resumes.{Ended, Held, Stopped}
 use Rattle.cqs_resume.specs.Rounds.{Round, IsOpenedWith, draw_entries, round_entries, over_entries, draw_seen, round_seen, all_seen, drawn_in, one_if, numbers}
 
 -- what the last round found is last of all that was found
 seen-last : (over : List Round) (last : Round)
     → (earlier : List Sighting) × (all_seen (over ++ last ∷ []) ≡ earlier ++ Cell last.number last.word ∷ [])
-seen-last [] last = (
-  draw_seen last.drawn last.number ++ last.tried,
-  append-nil _ ∙ sym (append_assoc (draw_seen last.drawn last.number) last.tried (Cell last.number last.word ∷ [])),
-)
+seen-last [] last =
+    let drew = draw_seen last.drawn last.number in
+    let end : List Sighting = Cell last.number last.word ∷ [] in (
+      leap_seen last.leap ++ (drew ++ last.tried),
+      append-nil _ ∙ (ap (λ l. leap_seen last.leap ++ l) (sym (append_assoc drew last.tried end))
+          ∙ sym (append_assoc (leap_seen last.leap) (drew ++ last.tried) end)),
+    )
 seen-last (r ∷ over) last =
     let later = seen-last over last in (
       round_seen r ++ later.0,
@@ -49,11 +54,6 @@ pub opened-few : (k : ℕ) (over : List Round) → IsOpenedWith (Some k) over �
 opened-few k [] opens = absurd opens
 opened-few k (r ∷ over) opens =
     let none : one_if r.drawn ≡ 0 = ap one_if opens.1 in let later = drawn-few over in omega arith
-
--- The object shows no entry where a number is drawn for a resumption that is owed, nor where its cell is passed over.
-pub record IsQuiet {E : Type 0} (object : Object E) : Type 0 where
-  pub drawing : (p k payload : ℕ) → object.entries reaches p k payload ≡ []
-  pub passing : (p k payload : ℕ) → object.entries passes_over p k payload ≡ []
 
 module _ {E : Type 0} (object : Object E) (quiet : IsQuiet object) where
   draw-none : (p payload : ℕ) (drawn : Bool) (k : ℕ) → draw_entries object p payload drawn k ≡ []

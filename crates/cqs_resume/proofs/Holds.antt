@@ -1,5 +1,5 @@
 -- A resumption that is handed back for want of a slot.
-use Rattle.std.proofs.Common.{◌≡◌, ◌⊎◌, ℕ, ◌+◌, ◌<◌, ◌≤◌, Bool, true, false, List, [], ◌∷◌, ◌++◌, Option, None, Some, refl, sym, ap, ◌∙◌, subst, ⊎_elim, inl, inr, append_assoc, arith}
+use Rattle.std.proofs.Common.{◌≡◌, ℕ, ◌+◌, ◌<◌, Bool, true, false, List, [], ◌∷◌, ◌++◌, Option, None, Some, Ok, refl, sym, ap, ◌∙◌, subst, ⊎_elim, inl, inr, append_assoc, arith}
 use Rattle.std.proofs.lemmas.List.{append-nil}
 use Rattle.cqs_core.specs.declared.cells.CoreState.TheVariants as state
 use Rattle.cqs_core.specs.declared.doings.Doing.TheVariants as doing
@@ -12,17 +12,17 @@ use Rattle.cqs_rule_laws.specs.Called.{Called}
 use Rattle.cqs_rule_laws.specs.Counts.{Drew}
 use Rattle.cqs_rule_laws.specs.Facts.{IsBehind}
 use Rattle.cqs_rule_laws.specs.Object.{Object, Primitive}
-use Rattle.cqs_rule_laws.specs.Views.{IsSame}
 use Rattle.cqs_rule_laws.proofs.Calls.{called-by, called-then, called-and}
 use Rattle.cqs_rule.specs.declared.queue.tokens.Under as token
-use Rattle.cqs_rule.specs.Owed.{under_reached}
 use Rattle.cqs_rule.proofs.Claiming.{homes-grow, same-ample}
 use Rattle.cqs_resume.specs.declared.resumed.Resumed.{Resumed}
 use Rattle.cqs_resume.specs.declared.resumed.Resumed.TheVariants.{Served, Left, Refused, Under}
-use Rattle.cqs_resume.specs.Meets.{HeldBack, Meets, Met}
-use Rattle.cqs_resume.specs.Resumes.{GoesOn, Held, IsFurther, Resumes}
+use Rattle.cqs_resume.specs.Leaps.{Leap, leap_seen, Leapt}
+use Rattle.cqs_resume.specs.Meets.{HeldBack, Meets}
+use Rattle.cqs_resume.specs.Resumes.{GoesOn, Held, Resumes}
 use Rattle.cqs_resume.specs.Rounds.{all_seen, draw_entries, draw_seen, one_if, over_entries, round_entries, round_seen}
-use Rattle.cqs_resume.proofs.Runs.{further-of, HasEnded, IsNext, never-falls, opened_by, over-so, resumes-now, resumes-then, Went, went-drawn, went-open}
+use Rattle.cqs_resume.proofs.Leaping.{behind-first, Firstly, firstly, leapt-on}
+use Rattle.cqs_resume.proofs.Runs.{HasEnded, IsNext, never-falls, opened_by, over-so, resumes-now, resumes-then, Went, went-drawn, went-open}
 
 module _ {C E S : Type 0} (object : Object E) (primitive : C → Primitive E S) where
   -- the ticket of the number was open
@@ -34,6 +34,9 @@ module _ {C E S : Type 0} (object : Object E) (primitive : C → Primitive E S) 
     over = [];
     few = some;
     are_over = tt;
+    are_leapt = tt;
+    leap = None;
+    leapt = tt;
     number = k;
     drawn = false;
     far = h.crowded.far;
@@ -53,42 +56,60 @@ module _ {C E S : Type 0} (object : Object E) (primitive : C → Primitive E S) 
     reached = let same = h.reached_is in omega arith;
   }
 
-  -- the number was drawn
-  held-drawn : (most payload k : ℕ) (under : token.Under) (v x w : View E S) → 0 < most
-      → v.facts.has.payload ≡ payload → IsBehind k v.facts → Drew object reaches v k x
-      → HeldBack object primitive payload k x under w → Held object primitive most payload v (Under under) w
-  held-drawn most payload k under v x w some owed next d h =
-      let first : List E = object.entries reaches v.number k v.facts.has.payload in
+  -- the number was drawn, perhaps after a jump
+  held-drawn : (most payload k : ℕ) (under : token.Under) (leap : Option Leap) (v y x w : View E S) → 0 < most
+      → v.facts.has.payload ≡ payload → Leapt object primitive leap v y → IsBehind k y.facts
+      → Drew object reaches y k x → HeldBack object primitive payload k x under w
+      → Held object primitive most payload v (Under under) w
+  held-drawn most payload k under leap v y x w some owed l next d h =
+      let f : Firstly object primitive leap v y = firstly object primitive leap v y l in
+      let first : List E = object.entries reaches y.number k y.facts.has.payload in
       let drawn = d.facts_are in
-      let called : Called object v (first ++ []) [] w =
-      called-then object v x w _ first first [] (called-by object v x _ first d) h.searched.saw in
+      let owes : y.facts.has.payload ≡ payload = ap (λ (z : Facts). z.has.payload) f.facts_are ∙ owed in
+      let number : y.number ≡ v.number = f.called.same.number in
+      let then : Called object y (first ++ []) [] w =
+      called-then object y x w _ first first [] (called-by object y x _ first d) h.searched.saw in
+      let called : Called object v (first ++ []) [] w = called-and object v y w [] [] (first ++ []) [] f.called then in
       record {
         under = under;
         is = refl;
         over = [];
         few = some;
         are_over = tt;
+        are_leapt = tt;
+        leap = leap;
+        leapt = leapt-on primitive leap then.more y w f.leapt then.seen then.same.opening;
         number = k;
         drawn = true;
-        far = let grown = homes-grow v x d.same in let far = h.crowded.far in omega arith;
+        far =
+            let sooner = homes-grow v y f.called.same in
+            let grown = homes-grow y x d.same in
+            let far = h.crowded.far in omega arith;
         called = subst (λ (l : List E). Called object v l [] w)
-            (append-nil first ∙ ap (λ z. object.entries reaches v.number k z) owed) called;
+            (append-nil first ∙ (λ i. object.entries reaches (number i) k (owes i))) called;
         found = ap (λ (f : Facts). f.found) h.searched.saw.facts_are
-            ∙ (append-nil x.facts.found ∙ ap (λ (f : Facts). f.found) drawn);
+            ∙ (append-nil x.facts.found ∙ (ap (λ (f : Facts). f.found) drawn
+            ∙ (ap (λ (z : Facts). z.found ++ draw_seen true k) f.facts_are
+            ∙ append_assoc v.facts.found (leap_seen leap) (draw_seen true k))));
         spareless = h.crowded.none_left;
         before = [];
         heads = h.crowded.heads;
-        heads_are = h.crowded.found ∙ ap (λ (f : Facts). f.heads ++ h.crowded.heads) drawn;
-        taken = λ n below. h.crowded.taken n (let same = d.same.slots in omega arith);
-        scarce = λ ample. h.crowded.scarce (same-ample v x d.same ample);
+        heads_are = h.crowded.found ∙ (ap (λ (f : Facts). f.heads ++ h.crowded.heads) drawn
+            ∙ ap (λ (z : Facts). z.heads ++ h.crowded.heads) f.facts_are);
+        taken = λ n below. h.crowded.taken n
+            (let same = d.same.slots in let first = f.called.same.slots in omega arith);
+        scarce = λ ample. h.crowded.scarce (same-ample y x d.same (same-ample v y f.called.same ample));
         payload_is = h.payload_is;
         ticket_is = h.ticket_is;
         has = h.has;
-        keeps = ap (λ (f : Facts). f.has) h.searched.saw.facts_are ∙ ap (λ (f : Facts). f.has) drawn;
-        waits_are = ap (λ (f : Facts). f.waits) h.searched.saw.facts_are ∙ ap (λ (f : Facts). f.waits) drawn;
+        keeps = ap (λ (f : Facts). f.has) h.searched.saw.facts_are
+            ∙ (ap (λ (f : Facts). f.has) drawn ∙ ap (λ (z : Facts). z.has) f.facts_are);
+        waits_are = ap (λ (f : Facts). f.waits) h.searched.saw.facts_are
+            ∙ (ap (λ (f : Facts). f.waits) drawn ∙ ap (λ (z : Facts). z.waits) f.facts_are);
         reached =
             let same = h.reached_is in
             let is = ap (λ (f : Facts). f.reached) drawn in
+            let first = ap (λ (z : Facts). z.reached) f.facts_are in
             let low = next.reached in omega arith;
       }
 
@@ -114,6 +135,12 @@ module _ {C E S : Type 0} (object : Object E) (primitive : C → Primitive E S) 
               h.called.same.opening,
           h.are_over,
         );
+        are_leapt = (
+          leapt-on primitive t.round.leap h.called.more u w t.leapt h.called.seen h.called.same.opening,
+          h.are_leapt,
+        );
+        leap = h.leap;
+        leapt = h.leapt;
         number = h.number;
         drawn = h.drawn;
         far = let grown = homes-grow v u t.called.same in let far = h.far in omega arith;
@@ -122,11 +149,12 @@ module _ {C E S : Type 0} (object : Object E) (primitive : C → Primitive E S) 
             ∙ sym (append_assoc first (own v.number) (end v.number)))
             (called-and object v u w first _ (own u.number ++ end u.number) _ t.called h.called);
         found =
-            let later : List Sighting = all_seen h.over ++ draw_seen h.drawn h.number in
+            let last : List Sighting = leap_seen h.leap ++ draw_seen h.drawn h.number in
+            let later : List Sighting = all_seen h.over ++ last in
             h.found ∙ (ap (λ (f : Facts). f.found ++ later) t.facts_are
             ∙ (append_assoc v.facts.found (round_seen t.round) later
             ∙ ap (λ l. v.facts.found ++ l)
-            (sym (append_assoc (round_seen t.round) (all_seen h.over) (draw_seen h.drawn h.number)))));
+            (sym (append_assoc (round_seen t.round) (all_seen h.over) last))));
         spareless = h.spareless;
         before = t.round.heads ++ h.before;
         heads = h.heads;
@@ -147,34 +175,36 @@ module _ {C E S : Type 0} (object : Object E) (primitive : C → Primitive E S) 
       }
 
   -- a resumption that ended at its first number, or was handed back there; the number was drawn, or its ticket open
-  pub goes-drawn : (most payload k : ℕ) (result : Resumed) (v x w : View E S) → 0 < most
-      → v.facts.has.payload ≡ payload → IsBehind k v.facts → Drew object reaches v k x
-      → Meets object primitive payload k x (Some result) w → GoesOn object primitive most None payload v result w
-  goes-drawn most payload k result v x w some owed next d m = by result m
+  pub goes-drawn : (most payload k : ℕ) (result : Resumed) (leap : Option Leap) (v y x w : View E S) → 0 < most
+      → v.facts.has.payload ≡ payload → Leapt object primitive leap v y → IsBehind k y.facts
+      → Drew object reaches y k x → Meets object primitive payload k x (Ok result) w
+      → GoesOn object primitive most None payload v result w
+  goes-drawn most payload k result leap v y x w some owed l next d m = by result m
     where
-      ends : (r : Resumed) → HasEnded r → Meets object primitive payload k x (Some r) w
+      ends : (r : Resumed) → HasEnded r → Meets object primitive payload k x (Ok r) w
           → Resumes object primitive most None payload v r w
-      ends r end met = resumes-now object primitive true most payload k r v x w some next end
-          (λ s found met. went-drawn object primitive s found doing.Idle [] payload k v x w owed d met) met
+      ends r end met = resumes-now object primitive true most payload k r v x w some
+          (behind-first object primitive leap v y k (firstly object primitive leap v y l) next) end
+          (λ s found met. went-drawn object primitive s found doing.Idle [] payload k leap v y x w owed l d met) met
 
-      by : (r : Resumed) → Meets object primitive payload k x (Some r) w
+      by : (r : Resumed) → Meets object primitive payload k x (Ok r) w
           → GoesOn object primitive most None payload v r w
-      by (Under under) met = inr (held-drawn most payload k under v x w some owed next d met)
+      by (Under under) met = inr (held-drawn most payload k under leap v y x w some owed l next d met)
       by (Served n) met = inl (ends (Served n) tt met)
       by (Left n) met = inl (ends (Left n) tt met)
       by (Refused n) met = inl (ends (Refused n) tt met)
 
   pub goes-open : (most payload k : ℕ) (result : Resumed) (v w : View E S) → 0 < most
-      → Meets object primitive payload k v (Some result) w
+      → Meets object primitive payload k v (Ok result) w
       → GoesOn object primitive most (Some k) payload v result w
   goes-open most payload k result v w some m = by result m
     where
-      ends : (r : Resumed) → HasEnded r → Meets object primitive payload k v (Some r) w
+      ends : (r : Resumed) → HasEnded r → Meets object primitive payload k v (Ok r) w
           → Resumes object primitive most (Some k) payload v r w
       ends r end met = resumes-now object primitive false most payload k r v v w some tt end
           (λ s found met. went-open object primitive s found doing.Idle [] payload k v w met) met
 
-      by : (r : Resumed) → Meets object primitive payload k v (Some r) w
+      by : (r : Resumed) → Meets object primitive payload k v (Ok r) w
           → GoesOn object primitive most (Some k) payload v r w
       by (Under under) met = inr (held-open most payload k under v w some met)
       by (Served n) met = inl (ends (Served n) tt met)

@@ -1,5 +1,5 @@
 -- A resume is its rounds, one number after the other.
-use Rattle.std.proofs.Common.{◌≡◌, ℕ, ◌+◌, ◌<◌, ◌≤◌, Bool, true, false, List, [], ◌∷◌, ◌++◌, length, Option, Some, None, sym, refl, ap, ◌∙◌, subst, inl, inr, ⊎_elim, append_assoc, if◌then◌else◌, arith}
+use Rattle.std.proofs.Common.{◌≡◌, ℕ, ◌+◌, ◌<◌, ◌≤◌, Bool, true, false, List, [], ◌∷◌, ◌++◌, length, Option, Some, None, Ok, sym, refl, ap, ◌∙◌, subst, inl, inr, ⊎_elim, append_assoc, if◌then◌else◌, arith}
 use Rattle.std.proofs.lemmas.List.{append-nil}
 use Rattle.cqs_core.specs.declared.cells.CoreState.{CoreState}
 use Rattle.cqs_core.specs.declared.cells.CoreState.TheVariants as state
@@ -15,22 +15,22 @@ use Rattle.cqs_rule_laws.specs.Called.{Called}
 use Rattle.cqs_rule_laws.specs.Counts.{Drew}
 use Rattle.cqs_rule_laws.specs.Exchanges.{HasCell}
 use Rattle.cqs_rule_laws.specs.Facts.{IsBehind}
-use Rattle.cqs_rule_laws.specs.Hidden.{Hidden}
 use Rattle.cqs_rule_laws.specs.Layout.{resumes_place}
 use Rattle.cqs_rule_laws.specs.Lists as lists
-use Rattle.cqs_rule_laws.specs.Lists.{IsPrefix}
 use Rattle.cqs_rule_laws.specs.Object.{Object, Primitive}
 use Rattle.cqs_rule.specs.Owed.{HasUnder, under_payload, under_ticket, under_reached}
-use Rattle.cqs_rule_laws.specs.Saw.{WasShown, WasFound}
+use Rattle.cqs_rule_laws.specs.Saw.{WasFound}
 use Rattle.cqs_rule_laws.proofs.Calls.{called-by, called-then, called-and}
 use Rattle.cqs_rule_laws.proofs.Lists.{has_left, has_right}
 use Rattle.cqs_resume.specs.declared.resumed.Resumed.{Resumed}
 use Rattle.cqs_resume.specs.declared.resumed.Resumed.TheVariants.{Served, Left, Refused, Under}
-use Rattle.cqs_resume.specs.Rounds.{Round, cell_in, IsFoundIn, IsOpenedWith, AreDrawn, numbers, one_if, round_seen, all_seen, all_heads, facts_after_rounds, round_entries, over_entries}
+use Rattle.cqs_resume.specs.Rounds.{Round, cell_in, IsFoundIn, IsOpenedWith, AreDrawn, draw_seen, numbers, one_if, round_seen, all_seen, all_heads, facts_after_rounds, round_entries, over_entries}
 use Rattle.cqs_rule.specs.Counting.{counted_after}
 use Rattle.cqs_resume.specs.Counting.{duties_after, settles_at}
+use Rattle.cqs_resume.proofs.Leaping.{Firstly, firstly, leapt-on, was-so}
 use Rattle.cqs_resume.specs.Meets.{facts_met, cell_of, Met, Meets}
-use Rattle.cqs_resume.specs.Resumes.{WasSo, IsOver, Ended, Stopped, Resumes, IsFurther}
+use Rattle.cqs_resume.specs.Leaps.{IsLeapt, Leap, leap_seen, Leapt}
+use Rattle.cqs_resume.specs.Resumes.{IsOver, Ended, Stopped, Resumes, IsFurther}
 
 -- how a call opens with this number: it drew it, or it went on from its open ticket
 abbrev pub opened_by : Bool → ℕ → Option ℕ
@@ -91,15 +91,16 @@ module _ {C E S : Type 0} (object : Object E) (primitive : C → Primitive E S) 
     pub found : IsFoundIn state round
     pub was : WasFound primitive (HasCell (cell_in state round)) (object.entries s v.number k payload) w
     pub called : Called object v (round_entries object v.number payload s round) (object.entries s v.number k payload) w
+    pub leapt : IsLeapt primitive w round.leap
     pub counted : List (ℕ × ℕ)
     pub few_counted : length counted ≤ 1
     pub facts_are : w.facts ≡ counted_after (settles_at s) counted (facts_round s k at over round v.facts)
 
   -- the number was drawn, and then met
-  pub went-drawn : (s : QueueStep) (state : CoreState) (at : Doing) (over : List ℕ) (payload k : ℕ) (v x w : View E S)
+  went-plain : (s : QueueStep) (state : CoreState) (at : Doing) (over : List ℕ) (payload k : ℕ) (v x w : View E S)
       → v.facts.has.payload ≡ payload → Drew object reaches v k x → Met object primitive s state at over payload k x w
-      → Went true s state at over payload k v w
-  went-drawn s state at over payload k v x w owed d m =
+      → (t : Went true s state at over payload k v w) × (t.round.leap ≡ None)
+  went-plain s state at over payload k v x w owed d m =
       let f : Facts = v.facts in
       let drawn : Facts = record f {
         doing = doing.Ticket k;
@@ -114,33 +115,78 @@ module _ {C E S : Type 0} (object : Object E) (primitive : C → Primitive E S) 
       let first : List E = object.entries reaches v.number k f.has.payload in
       let called : Called object v (first ++ object.entries s x.number k payload)
       (object.entries s x.number k payload) w =
-      called-then object v x w _ first first _ (called-by object v x _ first d) m.saw in
+      called-then object v x w _ first first _ (called-by object v x _ first d) m.saw in (
+        record {
+          round = record {
+            number = k;
+            leap = None;
+            drawn = true;
+            tried = m.tried;
+            heads = m.heads;
+            far = m.search.far;
+            spares = m.spares;
+            word = m.word;
+            payload = m.left;
+          };
+          number = refl;
+          is_drawn = refl;
+          found = record { cell = m.cell; few = m.few; few_heads = m.search.few };
+          was = subst (λ (z : List E). WasFound primitive (HasCell (cell_of k state m.left)) z w) last m.was;
+          called = subst (λ (z : ℕ × List E). Called object v (object.entries reaches v.number k z.0 ++ z.1) z.1 w)
+              (λ i. (owed i, last i)) called;
+          counted = m.counted;
+          few_counted = m.few_counted;
+          facts_are = m.saw.facts_are ∙ ap (counted_after (settles_at s) m.counted)
+              ((λ i. facts_met s k at over seen m.heads m.spares (x_is i))
+              ∙ (λ i. record (facts_met s k at over seen m.heads m.spares drawn) {
+                found =
+                    append_assoc f.found (Word resumes_place k ∷ []) seen i;
+              }));
+          leapt = tt;
+        },
+        refl,
+      )
+
+  -- and before that a jump was tried
+  went-first : (leap : Option Leap) (s : QueueStep) (state : CoreState) (at : Doing) (over : List ℕ) (payload k : ℕ)
+      (v y w : View E S) → Firstly object primitive leap v y → (t : Went true s state at over payload k y w)
+      → t.round.leap ≡ None → Went true s state at over payload k v w
+  went-first leap s state at over payload k v y w f t plain =
+      let number : y.number ≡ v.number = f.called.same.number in
+      let round : Round = record t.round { leap = leap } in
+      let rest : List Sighting = draw_seen t.round.drawn t.round.number
+      ++ (t.round.tried ++ Cell t.round.number t.round.word ∷ []) in
+      let own : ℕ → List E = λ z. round_entries object z payload s t.round in
+      let last : ℕ → List E = λ z. object.entries s z k payload in
       record {
-        round = record {
-          number = k;
-          drawn = true;
-          tried = m.tried;
-          heads = m.heads;
-          far = m.search.far;
-          spares = m.spares;
-          word = m.word;
-          payload = m.left;
-        };
-        number = refl;
-        is_drawn = refl;
-        found = record { cell = m.cell; few = m.few; few_heads = m.search.few };
-        was = subst (λ (z : List E). WasFound primitive (HasCell (cell_of k state m.left)) z w) last m.was;
-        called = subst (λ (z : ℕ × List E). Called object v (object.entries reaches v.number k z.0 ++ z.1) z.1 w)
-            (λ i. (owed i, last i)) called;
-        counted = m.counted;
-        few_counted = m.few_counted;
-        facts_are = m.saw.facts_are ∙ ap (counted_after (settles_at s) m.counted)
-            ((λ i. facts_met s k at over seen m.heads m.spares (x_is i))
-            ∙ (λ i. record (facts_met s k at over seen m.heads m.spares drawn) {
+        round = round;
+        number = t.number;
+        is_drawn = t.is_drawn;
+        found = record { cell = t.found.cell; few = t.found.few; few_heads = t.found.few_heads };
+        was = subst (λ z. WasFound primitive (HasCell (cell_in state t.round)) (last z) w) number t.was;
+        called = subst (λ z. Called object v (own z) (last z) w) number
+            (called-and object v y w [] [] (own y.number) (last y.number) f.called t.called);
+        leapt = leapt-on primitive leap t.called.more y w f.leapt t.called.seen t.called.same.opening;
+        counted = t.counted;
+        few_counted = t.few_counted;
+        facts_are = t.facts_are ∙ ap (counted_after (settles_at s) t.counted)
+            (ap (facts_round s k at over t.round) f.facts_are
+            ∙ (λ i. record (facts_round s k at over round v.facts) {
               found =
-                  append_assoc f.found (Word resumes_place k ∷ []) seen i;
+                  (ap (λ z. (v.facts.found ++ leap_seen leap) ++ (leap_seen z ++ rest)) plain
+                  ∙ append_assoc v.facts.found (leap_seen leap) rest) i;
             }));
       }
+
+  pub went-drawn : (s : QueueStep) (state : CoreState) (at : Doing) (over : List ℕ) (payload k : ℕ)
+      (leap : Option Leap) (v y x w : View E S) → v.facts.has.payload ≡ payload → Leapt object primitive leap v y
+      → Drew object reaches y k x → Met object primitive s state at over payload k x w
+      → Went true s state at over payload k v w
+  went-drawn s state at over payload k leap v y x w owed l d m =
+      let f = firstly object primitive leap v y l in
+      let owes : y.facts.has.payload ≡ payload = ap (λ (z : Facts). z.has.payload) f.facts_are ∙ owed in
+      let t = went-plain s state at over payload k y x w owes d m in
+      went-first leap s state at over payload k v y w f t.0 t.1
 
   -- the number's ticket was open, and it was met
   pub went-open : (s : QueueStep) (state : CoreState) (at : Doing) (over : List ℕ) (payload k : ℕ) (v w : View E S)
@@ -148,6 +194,7 @@ module _ {C E S : Type 0} (object : Object E) (primitive : C → Primitive E S) 
   went-open s state at over payload k v w m = record {
     round = record {
       number = k;
+      leap = None;
       drawn = false;
       tried = m.tried;
       heads = m.heads;
@@ -161,6 +208,7 @@ module _ {C E S : Type 0} (object : Object E) (primitive : C → Primitive E S) 
     found = record { cell = m.cell; few = m.few; few_heads = m.search.few };
     was = m.was;
     called = called-by object v w _ _ m.saw;
+    leapt = tt;
     counted = m.counted;
     few_counted = m.few_counted;
     facts_are = m.saw.facts_are;
@@ -191,6 +239,7 @@ module _ {C E S : Type 0} (object : Object E) (primitive : C → Primitive E S) 
     opens = opens drawn t.is_drawn;
     few = some;
     are_over = tt;
+    are_leapt = (t.leapt, tt);
     found = t.found;
     was = t.was;
     called = t.called;
@@ -204,21 +253,16 @@ module _ {C E S : Type 0} (object : Object E) (primitive : C → Primitive E S) 
       opens true is = (is, tt)
       opens false is = (t.number, is, tt)
 
-  -- what held at a step holds for what the pass has seen later
-  was-so : (fact : Hidden → List ℕ → Type 0) (es more : List E) (u w : View E S) → WasFound primitive fact es u
-      → w.seen ≡ u.seen ++ more → w.opening ≡ u.opening → WasSo primitive fact w
-  was-so fact es more u w f seen opening = record {
-    before = f.before;
-    seen = (es ++ more, seen ∙ (ap (λ l. l ++ more) f.seen ∙ append_assoc f.before es more));
-    was = subst (λ z. WasShown primitive z fact f.before) (sym opening) f.was;
-  }
-
+  -- a number that was passed over is one that the call passed over
   pub over-so : (drawn : Bool) (at : Doing) (over : List ℕ) (payload k : ℕ) (more : List E) (v u w : View E S)
       → (t : Went drawn passes_over state.Cancelled at over payload k v u) → w.seen ≡ u.seen ++ more
       → w.opening ≡ u.opening
       → IsOver primitive w t.round
   over-so drawn at over payload k more v u w t seen opening =
-      record { found = t.found; was = was-so (HasCell (cell_in state.Cancelled t.round)) _ more u w t.was seen opening }
+      record {
+        found = t.found;
+        was = was-so primitive (HasCell (cell_in state.Cancelled t.round)) _ more u w t.was seen opening;
+      }
 
   opens-with : (drawn : Bool) (r : Round) (rest : List Round) (k : ℕ) → r.number ≡ k → r.drawn ≡ drawn → AreDrawn rest
       → IsOpenedWith (opened_by drawn k) (r ∷ rest)
@@ -248,6 +292,10 @@ module _ {C E S : Type 0} (object : Object E) (primitive : C → Primitive E S) 
           over-so drawn doing.Owes (j ∷ []) payload j e.called.more v u w t e.called.seen
               e.called.same.opening,
           e.are_over,
+        );
+        are_leapt = (
+          leapt-on primitive t.round.leap e.called.more u w t.leapt e.called.seen e.called.same.opening,
+          e.are_leapt,
         );
         found = e.found;
         was = subst (λ z. WasFound primitive (HasCell (cell_in stood e.last)) (object.entries s z k payload) w) number
@@ -329,6 +377,10 @@ module _ {C E S : Type 0} (object : Object E) (primitive : C → Primitive E S) 
               e.called.same.opening,
           e.are_over,
         );
+        are_leapt = (
+          leapt-on primitive t.round.leap e.called.more u w t.leapt e.called.seen e.called.same.opening,
+          e.are_leapt,
+        );
         called = subst (λ z. Called object v (first ++ own z)
             (object.entries passes_over z (under_reached under) payload) w) number
             (called-and object v u w first _ (own u.number) _ t.called e.called);
@@ -361,6 +413,7 @@ module _ {C E S : Type 0} (object : Object E) (primitive : C → Primitive E S) 
               (ap (λ (z : View E S). z.opening) same),
           tt,
         );
+        are_leapt = (leapt-on primitive t.round.leap [] u w t.leapt seen (ap (λ (z : View E S). z.opening) same), tt);
         called = subst (λ (z : List E × ℕ × View E S). Called object v z.0
             (object.entries passes_over v.number z.1 payload) z.2)
             (λ i. (sym (append-nil first) i, sym reached i, sym same i)) t.called;
@@ -380,7 +433,7 @@ module _ {C E S : Type 0} (object : Object E) (primitive : C → Primitive E S) 
       → IsNext drawn k v.facts → HasEnded result
       → ((s : QueueStep) (state : CoreState) → Met object primitive s state doing.Idle [] payload k x w
       → Went drawn s state doing.Idle [] payload k v w)
-      → Meets object primitive payload k x (Some result) w
+      → Meets object primitive payload k x (Ok result) w
       → Resumes object primitive most (opened_by drawn k) payload v result w
   resumes-now drawn most payload k (Served n) v x w some next end went m =
       subst (λ z. Ended object primitive serves state.Waiter most (opened_by drawn k) payload z v w) (sym m.0)

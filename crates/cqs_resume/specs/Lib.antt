@@ -1,4 +1,5 @@
 pub mod Counting
+pub mod Leaps
 pub mod Rounds
 pub mod Meets
 pub mod Resumes

@@ -1,5 +1,5 @@
 -- What becomes of one number: the resume ends at its cell, or passes over it.
-use Rattle.std.specs.Prelude.{◌≡◌, ◌⊎◌, ℕ, ◌≤◌, List, [], ◌∷◌, ◌++◌, length, Option, Some, None}
+use Rattle.std.specs.Prelude.{◌≡◌, ◌⊎◌, ℕ, ◌+◌, ◌≤◌, List, [], ◌∷◌, ◌++◌, length, Some, None, Result, Ok, Err}
 use Rattle.cqs_core.specs.declared.cells.CoreState.{CoreState}
 use Rattle.cqs_core.specs.declared.cells.CoreState.TheVariants as state
 use Rattle.cqs_core.specs.declared.doings.Doing.{Doing}
@@ -14,6 +14,7 @@ use Rattle.cqs_rule_laws.specs.declared.view.Spare.{Spare}
 use Rattle.cqs_rule_laws.specs.declared.view.Sighting.TheVariants.{Cell}
 use Rattle.cqs_rule_laws.specs.declared.view.View.{View}
 use Rattle.cqs_rule_laws.specs.Exchanges.{FoundCell, HasCell}
+use Rattle.cqs_rule_laws.specs.Jumped.{AreOut}
 use Rattle.cqs_rule_laws.specs.Object.{Object, Primitive}
 use Rattle.cqs_rule.specs.declared.queue.tokens.Under as token
 use Rattle.cqs_rule.specs.Owed.{HasUnder, under_payload, under_reached, under_ticket}
@@ -76,20 +77,21 @@ module _ {C E S : Type 0} (object : Object E) (primitive : C → Primitive E S) 
       pub reached_is : under_reached under ≡ v.facts.reached
       pub has : HasUnder w.facts under
 
-  -- the number was passed over; or the resume ended there, by the state that the cell was found in;
-  -- or it was handed back
-  abbrev pub Meets : ℕ → ℕ → View E S → Option Resumed → View E S → Type 0
-  Meets payload k v None w = Met passes_over state.Cancelled doing.Owes (k ∷ []) payload k v w
-  Meets payload k v (Some (Served n)) w =
+  -- The number was passed over, and all from there to the next one that is answered were taken out;
+  -- or the resume ended there, by the state that the cell was found in; or it was handed back.
+  abbrev pub Meets : ℕ → ℕ → View E S → Result Resumed ℕ → View E S → Type 0
+  Meets payload k v (Err next) w =
+      Met passes_over state.Cancelled doing.Owes (k ∷ []) payload k v w × AreOut (k + 1) next w
+  Meets payload k v (Ok (Served n)) w =
       (n ≡ k) × Met serves state.Waiter doing.Idle [] payload k v w
-  Meets payload k v (Some (Left n)) w =
+  Meets payload k v (Ok (Left n)) w =
       (n ≡ k) × (Met leaves state.Empty doing.Idle [] payload k v w
       ⊎ Met delegates state.Cancelling doing.Idle [] payload k v w)
-  Meets payload k v (Some (Refused n)) w =
+  Meets payload k v (Ok (Refused n)) w =
       (n ≡ k) × Met ends_refused state.Refused doing.Idle [] payload k v w
-  Meets payload k v (Some (Under under)) w = HeldBack payload k v under w
+  Meets payload k v (Ok (Under under)) w = HeldBack payload k v under w
 
 module _ {C S E : Type 0} {g : Ghosts C S E} where
-  abbrev pub HasMet : ℕ → ℕ → Pass C S E g → Option Resumed → Pass C S E g → Type 0
+  abbrev pub HasMet : ℕ → ℕ → Pass C S E g → Result Resumed ℕ → Pass C S E g → Type 0
   HasMet payload k p result p' =
       Meets g.object g.primitive payload k (pass_view p) result (pass_view p')

@@ -12,17 +12,16 @@ use Rattle.cqs_rule_laws.specs.Ample.{IsAmple}
 use Rattle.cqs_rule_laws.specs.Called.{Called}
 use Rattle.cqs_rule_laws.specs.Exchanges.{HasCell}
 use Rattle.cqs_rule_laws.specs.Facts.{IsBehind}
-use Rattle.cqs_rule_laws.specs.Hidden.{Hidden}
-use Rattle.cqs_rule_laws.specs.Lists.{IsPrefix}
 use Rattle.cqs_rule_laws.specs.Object.{Object, Primitive}
 use Rattle.cqs_rule.specs.Owed.{HasUnder, under_payload, under_ticket, under_reached}
 use Rattle.cqs_rule.specs.Passes.{pass_view}
-use Rattle.cqs_rule_laws.specs.Saw.{WasShown, WasFound}
+use Rattle.cqs_rule_laws.specs.Saw.{WasFound, WasSo}
 use Rattle.cqs_resume.specs.declared.resumed.Resumed.{Resumed}
 use Rattle.cqs_resume.specs.declared.resumed.Resumed.TheVariants.{Served, Left, Refused, Under}
 use Rattle.cqs_find.specs.Finds.{FoundTaken}
 use Rattle.cqs_rule.specs.Counting.{counted_after}
 use Rattle.cqs_resume.specs.Counting.{settles_at}
+use Rattle.cqs_resume.specs.Leaps.{IsLeapt, Leap, leap_seen}
 use Rattle.cqs_resume.specs.Rounds.{Round, all_seen, cell_in, draw_seen, IsFoundIn, IsOpenedWith, numbers, drawn_in, facts_after_rounds, round_entries, draw_entries, over_entries}
 
 -- how many numbers one call passes over before it hands the resumption back
@@ -34,16 +33,15 @@ abbrev pub most_after_first : ℕ
 most_after_first = 63
 
 module _ {C E S : Type 0} (primitive : C → Primitive E S) where
-  -- something held where the history was some prefix of what the pass has seen
-  pub record WasSo (fact : Hidden → List ℕ → Type 0) (w : View E S) : Type 0 where
-    pub before : List E
-    pub seen : IsPrefix before w.seen
-    pub was : WasShown primitive w.opening fact before
-
   -- the cell of the round was found Cancelled, by its word and in what the history showed
   pub record IsOver (w : View E S) (r : Round) : Type 0 where
     pub found : IsFoundIn state.Cancelled r
-    pub was : WasSo (HasCell (cell_in state.Cancelled r)) w
+    pub was : WasSo primitive (HasCell (cell_in state.Cancelled r)) w
+
+  -- each jump that was tried
+  abbrev pub AreLeapt : View E S → List Round → Type 0
+  AreLeapt w [] = Unit {0}
+  AreLeapt w (r ∷ rs) = IsLeapt primitive w r.leap × AreLeapt w rs
 
   abbrev pub AreOver : View E S → List Round → Type 0
   AreOver w [] = Unit {0}
@@ -64,6 +62,7 @@ module _ {C E S : Type 0} (object : Object E) (primitive : C → Primitive E S) 
     pub opens : IsOpenedWith ticket (over ++ last ∷ [])
     pub few : drawn_in over < most
     pub are_over : AreOver primitive w over
+    pub are_leapt : AreLeapt primitive w (over ++ last ∷ [])
     pub found : IsFoundIn state last
     pub was : WasFound primitive (HasCell (cell_in state last))
         (object.entries s v.number k payload) w
@@ -85,6 +84,7 @@ module _ {C E S : Type 0} (object : Object E) (primitive : C → Primitive E S) 
     pub opens : IsOpenedWith ticket over
     pub all : drawn_in over ≡ most
     pub are_over : AreOver primitive w over
+    pub are_leapt : AreLeapt primitive w over
     pub called : Called object v (over_entries object v.number payload over)
         (object.entries passes_over v.number (under_reached under) payload) w
     pub facts_are : w.facts
@@ -107,12 +107,16 @@ module _ {C E S : Type 0} (object : Object E) (primitive : C → Primitive E S) 
     pub over : List Round
     pub few : drawn_in over < most
     pub are_over : AreOver primitive w over
+    pub are_leapt : AreLeapt primitive w over
+    pub leap : Option Leap
+    pub leapt : IsLeapt primitive w leap
     pub number : ℕ
     pub drawn : Bool
     pub far : length v.segments.homes ≤ number / 32
     pub called : Called object v (over_entries object v.number payload over
         ++ draw_entries object v.number payload drawn number) [] w
-    pub found : w.facts.found ≡ v.facts.found ++ (all_seen over ++ draw_seen drawn number)
+    pub found : w.facts.found
+        ≡ v.facts.found ++ (all_seen over ++ (leap_seen leap ++ draw_seen drawn number))
     pub spareless : w.facts.spare_slots ≡ []
     pub before : List (ℕ × ℕ)
     pub heads : List (ℕ × ℕ)

@@ -13,10 +13,13 @@ use Rattle.cqs_rule_laws.specs.Layout.{resumes_place}
 use Rattle.cqs_rule_laws.specs.Object.{Object}
 use Rattle.cqs_find.specs.Finds.{longest_search}
 use Rattle.cqs_resume.specs.Counting.{duties_after}
+use Rattle.cqs_resume.specs.Leaps.{Leap, leap_seen}
 
 -- One number of a resumption: it is drawn, and then its cell is tried until a step is made there.
 pub record Round : Type 0 where
   pub number : ℕ
+  -- the jump that was tried before it was drawn
+  pub leap : Option Leap
   -- whether the call drew it: it didn't draw the one whose ticket was open already
   pub drawn : Bool
   -- what it found on the way: by exchanges on its cell that weren't made, and the heads where its
@@ -46,7 +49,8 @@ draw_seen true k = Word resumes_place k ∷ []
 draw_seen false k = []
 
 abbrev pub round_seen : Round → List Sighting
-round_seen r = draw_seen r.drawn r.number ++ (r.tried ++ Cell r.number r.word ∷ [])
+round_seen r =
+    leap_seen r.leap ++ (draw_seen r.drawn r.number ++ (r.tried ++ Cell r.number r.word ∷ []))
 
 abbrev pub all_seen : List Round → List Sighting
 all_seen [] = []

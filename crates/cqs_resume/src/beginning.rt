@@ -31,7 +31,7 @@ pub fn resume_from<C: Client>(
         → HasResumed most_after_first (Some number) payload pass.old result pass.new }
 {
     match meet(queue, pass, number, number, payload) {
-        Some(resumed) => resumed,
-        None => go_on(queue, pass, payload, MOST_PASSED_OVER - 1),
+        Ok(resumed) => resumed,
+        Err(next) => go_on(queue, pass, payload, MOST_PASSED_OVER - 1, number + 1, next),
     }
 }

@@ -26,7 +26,7 @@ pub fn begin<C: Client>(queue: &Queue<C>, pass: &mut Pass<C>, payload: u32) -> R
 {
     let number = queue.add_table::<Begins>(pass, RESUMES_WORD, 1);
     match meet(queue, pass, number, number, payload) {
-        Some(resumed) => resumed,
-        None => go_on(queue, pass, payload, MOST_PASSED_OVER - 1),
+        Ok(resumed) => resumed,
+        Err(next) => go_on(queue, pass, payload, MOST_PASSED_OVER - 1, number + 1, next),
     }
 }

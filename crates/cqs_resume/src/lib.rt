@@ -9,6 +9,9 @@
 //!       '------- passes over k <------------- Cancelled: its waiter has left
 //! ```
 //!
+//! Where the segment of k was taken out, the resume counter jumps to the next one that stands: the
+//! numbers between needn't be drawn.
+//!
 //! After 64 numbers that were passed over the call hands the resumption back, for `finish` to go on
 //! with.
 #![tactic(auto)]
@@ -16,6 +19,7 @@
 mod at_once;
 mod beginning;
 mod further;
+mod jumping;
 mod meeting;
 mod resumed;
 mod resuming;
@@ -23,5 +27,6 @@ mod resuming;
 pub use at_once::{EndedAtOnce, begin_at_once, finish_at_once};
 pub use beginning::resume_from;
 pub use further::begin;
+pub use jumping::jump;
 pub use resumed::Resumed;
 pub use resuming::{finish, resume};

@@ -12,12 +12,13 @@ use cqs_find::{Found, locate, place_after};
 use cqs_rule::{Client, Meets, Pass, Queue};
 use cqs_words::CellState;
 
-/// Ends the resumption at the cell of the number whose ticket is open, or passes over it and
-/// answers none. A waiter is tried first. Whatever is found instead is what is tried next: a cell
-/// only goes on, from Empty to Waiter, from there to Cancelling, and then it is settled. Where its
-/// waiter was refused to leave, the client is told that the resumption ended there. Where the
-/// segment was taken out, the number is passed over. Where it isn't made, and there is no slot for
-/// it, the resumption is handed back, with its ticket and the last number that was drawn for it.
+/// Ends the resumption at the cell of the number whose ticket is open, or passes over it: the error
+/// is a later number, and all between were taken out; it is the next one, or that which the search
+/// told. A waiter is tried first. Whatever is found instead is what is tried next: a cell only goes
+/// on, from Empty to Waiter, from there to Cancelling, and then it is settled. Where its waiter was
+/// refused to leave, the client is told that the resumption ended there. Where the segment was
+/// taken out, the number is passed over. Where it isn't made, and there is no slot for it, the
+/// resumption is handed back, with its ticket and the last number that was drawn for it.
 #[inline(always)]
 pub(crate) fn meet<C: Client>(
     queue: &Queue<C>,
@@ -25,7 +26,7 @@ pub(crate) fn meet<C: Client>(
     number: u64,
     reached: u64,
     payload: u32,
-) -> Option<Resumed>
+) -> Result<Resumed, u64>
     requires belongs { IsOf queue.now pass.old }
     requires smart { IsSmart (C.primitive (client_of queue.now)).manner.leaving }
     requires ticket { (pass_view pass.old).facts.doing ≡ doing.Ticket number }
@@ -36,40 +37,40 @@ pub(crate) fn meet<C: Client>(
 {
     let at = match locate(queue, pass, number) {
         Ok(Found::At(at)) => at,
-        Ok(Found::Over(_)) => {
+        Ok(Found::Over(next)) => {
             let after = place_after(queue, pass, number);
             queue.pass_over(pass, after);
-            return None;
+            return Err(next);
         }
         Err(_) => {
             let ticket = Some(number);
-            return Some(Resumed::Under(queue.under_of(pass, payload, ticket, reached)));
+            return Ok(Resumed::Under(queue.under_of(pass, payload, ticket, reached)));
         }
     };
     let mut state = match serve(queue, pass, at, payload) {
-        Ok(()) => return Some(Resumed::Served(number)),
+        Ok(()) => return Ok(Resumed::Served(number)),
         Err(state) => state,
     };
     loop {
         state = match state {
             CellState::Empty => match leave_value(queue, pass, at, payload) {
-                Ok(()) => return Some(Resumed::Left(number)),
+                Ok(()) => return Ok(Resumed::Left(number)),
                 Err(state) => state,
             },
             CellState::Waiter => match serve(queue, pass, at, payload) {
-                Ok(()) => return Some(Resumed::Served(number)),
+                Ok(()) => return Ok(Resumed::Served(number)),
                 Err(state) => state,
             },
             CellState::Cancelling => match delegate(queue, pass, at, payload) {
-                Ok(()) => return Some(Resumed::Left(number)),
+                Ok(()) => return Ok(Resumed::Left(number)),
                 Err(state) => state,
             },
             _ => {
                 return match look::<C, Meets>(queue, pass, at).state {
-                    CellState::Cancelled => None,
+                    CellState::Cancelled => Err(number + 1),
                     CellState::Refused => {
                         C::complete_refused_resume(queue, pass, payload);
-                        Some(Resumed::Refused(number))
+                        Ok(Resumed::Refused(number))
                     }
                     _ => unreachable!(),
                 };

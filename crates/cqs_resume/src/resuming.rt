@@ -2,11 +2,13 @@
 
 ghost use Rattle.std.specs.Prelude.{◌≡◌, ◌<◌, true, None};
 ghost use Rattle.cqs_core.specs.declared.doings.Doing.TheVariants as doing;
+ghost use Rattle.cqs_rule_laws.specs.Jumped.{AreOut};
 ghost use Rattle.cqs_rule_laws.specs.Manner.{IsSmart};
 ghost use Rattle.cqs_rule.specs.Owed.{HasUnder, under_payload, under_ticket, under_reached};
 ghost use Rattle.cqs_rule.specs.Passes.{ample_of, pass_view, client_of, IsOf};
 ghost use Rattle.cqs_resume.specs.Resumes.{HasGoneOn, HasResumed, IsFurther, most_passed_over};
 
+use crate::jumping::leap;
 use crate::meeting::meet;
 use crate::resumed::Resumed;
 use core::mem::replace_with;
@@ -33,8 +35,8 @@ pub fn resume<C: Client>(queue: &Queue<C>, pass: &mut Pass<C>, payload: u32) -> 
 {
     let number = queue.add_table::<Reaches>(pass, RESUMES_WORD, 1);
     match meet(queue, pass, number, number, payload) {
-        Some(resumed) => resumed,
-        None => go_on(queue, pass, payload, MOST_PASSED_OVER - 1),
+        Ok(resumed) => resumed,
+        Err(next) => go_on(queue, pass, payload, MOST_PASSED_OVER - 1, number + 1, next),
     }
 }
 
@@ -97,38 +99,48 @@ fn end<C: Client>(queue: &Queue<C>, pass: &mut Pass<C>, under: Under) -> Resumed
     let reached = under.reached();
     let (payload, ticket) = queue.spend_under(pass, under);
     let Some(number) = ticket else {
-        return go_on(queue, pass, payload, MOST_PASSED_OVER);
+        return go_on(queue, pass, payload, MOST_PASSED_OVER, 0, 0);
     };
     match meet(queue, pass, number, reached, payload) {
-        Some(resumed) => resumed,
-        None => go_on(queue, pass, payload, MOST_PASSED_OVER),
+        Ok(resumed) => resumed,
+        Err(next) => go_on(queue, pass, payload, MOST_PASSED_OVER, number + 1, next),
     }
 }
 
-// Passes over numbers until the resumption ends, or until it has passed over this many. It is
-// compiled into its callers too: a call of it would get the pass by its address, and then the pass
-// would lie in memory also where a resume ends at its first number.
+// Passes over numbers until the resumption ends, or until it has passed over this many. Before the
+// first draw it tries a jump from the one to the other number, where the second comes later, and
+// before each further one past what the search for the number before told to be out. It is
+// compiled into its callers too: a call of it would get the pass by its address, and then the
+// pass would lie in memory also where a resume ends at its first number.
 #[inline(always)]
 pub(crate) fn go_on<C: Client>(
     queue: &Queue<C>,
     pass: &mut Pass<C>,
     payload: u32,
     most: u32,
+    from: u64,
+    to: u64,
 ) -> Resumed
     requires belongs { IsOf queue.now pass.old }
     requires smart { IsSmart (C.primitive (client_of queue.now)).manner.leaving }
     requires owes { (pass_view pass.old).facts.doing ≡ doing.Owes }
     requires payload { (pass_view pass.old).facts.has.payload ≡ payload }
     requires some { 0 < most }
+    requires out { AreOut from to (pass_view pass.old) }
     ensures belongs { IsOf queue.now pass.new }
     ensures resumed { HasGoneOn most None payload pass.old result pass.new }
 {
     let mut left = most;
+    let mut from = from;
+    let mut to = to;
     loop {
+        leap(queue, pass, from, to);
         let number = queue.add_table::<Reaches>(pass, RESUMES_WORD, 1);
-        if let Some(resumed) = meet(queue, pass, number, number, payload) {
-            return resumed;
+        match meet(queue, pass, number, number, payload) {
+            Ok(resumed) => return resumed,
+            Err(next) => to = next,
         }
+        from = number + 1;
         left -= 1;
         if left == 0 {
             return Resumed::Under(queue.under_of(pass, payload, None, number));

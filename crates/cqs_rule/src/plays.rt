@@ -4,6 +4,7 @@ ghost use Rattle.cqs_rule_laws.specs.Crew.{IsSole, counted_by, counted_after, tr
 ghost use Rattle.cqs_rule_laws.specs.Counts.{drew};
 ghost use Rattle.cqs_rule_laws.specs.Events.{moved_by, exchanged_by, in_any_case};
 ghost use Rattle.cqs_rule_laws.specs.Exchanges.{crossed};
+ghost use Rattle.cqs_rule_laws.specs.Jumped.{jumped};
 ghost use Rattle.cqs_rule_laws.specs.Loads.{loaded_by};
 ghost use Rattle.cqs_rule_laws.specs.PassedOver.{passed_over};
 ghost use Rattle.cqs_rule_laws.specs.SlotSteps.{took_out, put_back, filled, given_by, put_by};
@@ -29,6 +30,15 @@ pub(crate) struct PassingOver<C> {
 
 impl<C: ClientWords> Telling<C> for PassingOver<C> {
     ghost told = { passed_over C.object C.primitive };
+}
+
+/// The resume counter goes on past numbers whose segments were taken out.
+pub(crate) struct Jumping<C> {
+    of: PhantomData<C>,
+}
+
+impl<C: ClientWords> Telling<C> for Jumping<C> {
+    ghost told = { jumped C.object C.primitive };
 }
 
 /// A number is drawn from a counter.

@@ -13,6 +13,7 @@ mod claiming;
 mod counting;
 mod histories;
 mod homes;
+mod jumping;
 mod making;
 mod opening;
 mod parked;

@@ -22,7 +22,8 @@ use Rattle.cqs_resume.specs.declared.resumed.Resumed.TheVariants as resumed
 use Rattle.cqs_resume.specs.Resumes as resume
 use Rattle.cqs_resume.specs.Resumes.{Ended, GoesOn, Held, Stopped}
 use Rattle.cqs_resume.specs.Rounds.{numbers}
-use Rattle.cqs_resume.proofs.Ends.{IsQuiet, EndedAt, HeldOn, ended-at, held-on, handed-back, drawn-few}
+use Rattle.cqs_rule_laws.specs.Client.{IsQuiet}
+use Rattle.cqs_resume.proofs.Ends.{EndedAt, HeldOn, ended-at, held-on, handed-back, drawn-few}
 use Rattle.cqs_semaphore.specs.Answers.{Ends, HandsBack, most_passed_over}
 use Rattle.cqs_semaphore.specs.Calls.{Rests}
 use Rattle.cqs_semaphore.specs.Causes.{primitive_of}

@@ -3,6 +3,8 @@ use Rattle.cqs_core.specs.declared.cells.CoreState.TheVariants as state
 use Rattle.cqs_core.specs.declared.doings.Doing.TheVariants as doing
 use Rattle.cqs_core.specs.QueueSteps.{serves, leaves, ends_missed}
 use Rattle.cqs_rule_laws.proofs.CellSteps.{shown-injective}
+use Rattle.cqs_rule.specs.Passes.{pass_view}
+use Rattle.cqs_find.proofs.Numbers.{number-out}
 use Rattle.cqs_resume.proofs.AtOnceSteps.{end-missed, simple-mode, worked-missed}
 use Rattle.cqs_resume.proofs.OneNumber.{stays-searched, stays-missed, way-searched, tried-first, tried-next, worked-by, met-by, end-serves, end-leaves}
 use Rattle.cqs_resume.proofs.at_once.meet_at_once.Goals as goal
@@ -101,4 +103,5 @@ unreachable-requires g c =
     let first = stays-searched C.object C.primitive _ _ _ c.locate.ensures.searched in
     let mode = ap (λ o. o.mode) c.locate.ensures.belongs.opening
     ∙ ((g.met.C.ClientWords.keeps x).mode ∙ simple-mode _ c.requires.at_once) in
-    out.own c.args.number (inr (inr (inr (inr (first.doing ∙ c.requires.ticket, mode))))) out.out
+    out.own c.args.number (inr (inr (inr (inr (first.doing ∙ c.requires.ticket, mode)))))
+    (number-out c.args.number _ (pass_view c.locate.new.pass) out)

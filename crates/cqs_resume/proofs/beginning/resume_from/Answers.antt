@@ -8,36 +8,36 @@ use Rattle.cqs_resume.proofs.Holds.{goes-amply, goes-open, goes-then}
 use Rattle.cqs_resume.proofs.Runs.{went-open}
 use Rattle.cqs_resume.proofs.beginning.resume_from.Goals as goal
 
-pub returns-in-Some-clause-resumed : goal.returns-in-Some-clause-resumed
-returns-in-Some-clause-resumed g c =
+pub returns-in-Ok-clause-resumed : goal.returns-in-Ok-clause-resumed
+returns-in-Ok-clause-resumed g c =
     let C = g.C.ClientWords in
-    goes-open C.object C.primitive 63 c.args.payload c.args.number c.in-Some.resumed (pass_view c.args.pass.now)
-    (pass_view c.meet.new.pass) (omega arith) c.in-Some.ensures.met
+    goes-open C.object C.primitive 63 c.args.payload c.args.number c.in-Ok.resumed (pass_view c.args.pass.now)
+    (pass_view c.meet.new.pass) (omega arith) c.in-Ok.ensures.met
 
-pub returns-in-Some-clause-ample : goal.returns-in-Some-clause-ample
-returns-in-Some-clause-ample g c = λ ample.
+pub returns-in-Ok-clause-ample : goal.returns-in-Ok-clause-ample
+returns-in-Ok-clause-ample g c = λ ample.
     let C = g.C.ClientWords in
-    goes-amply C.object C.primitive 63 c.args.payload (Some c.args.number) c.in-Some.resumed
+    goes-amply C.object C.primitive 63 c.args.payload (Some c.args.number) c.in-Ok.resumed
     (pass_view c.args.pass.now) (pass_view c.meet.new.pass)
     (ample-view c.args.queue.now c.args.pass.now c.requires.belongs ample)
-    (returns-in-Some-clause-resumed g c)
+    (returns-in-Ok-clause-resumed g c)
 
-pub returns-in-None-clause-resumed : goal.returns-in-None-clause-resumed
-returns-in-None-clause-resumed g c =
+pub returns-in-Err-clause-resumed : goal.returns-in-Err-clause-resumed
+returns-in-Err-clause-resumed g c =
     let C = g.C.ClientWords in
     let k = c.args.number in
     let v = pass_view c.args.pass.now in
     let u = pass_view c.meet.new.pass in
     let w = pass_view c.go_on.new.pass in
     let t = went-open C.object C.primitive passes_over state.Cancelled doing.Owes
-    (k ∷ []) c.args.payload k v u c.in-None.ensures.met in
+    (k ∷ []) c.args.payload k v u c.in-Err.ensures.met.0 in
     goes-then C.object C.primitive false 63 c.args.payload k c.go_on.result v u w t tt
     c.go_on.ensures.resumed
 
-pub returns-in-None-clause-ample : goal.returns-in-None-clause-ample
-returns-in-None-clause-ample g c = λ ample.
+pub returns-in-Err-clause-ample : goal.returns-in-Err-clause-ample
+returns-in-Err-clause-ample g c = λ ample.
     let C = g.C.ClientWords in
     goes-amply C.object C.primitive 63 c.args.payload (Some c.args.number) c.go_on.result
     (pass_view c.args.pass.now) (pass_view c.go_on.new.pass)
     (ample-view c.args.queue.now c.args.pass.now c.requires.belongs ample)
-    (returns-in-None-clause-resumed g c)
+    (returns-in-Err-clause-resumed g c)

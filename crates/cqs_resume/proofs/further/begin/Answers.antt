@@ -8,8 +8,8 @@ use Rattle.cqs_resume.proofs.Holds.{goes-amply, goes-open, goes-then}
 use Rattle.cqs_resume.proofs.Runs.{went-open}
 use Rattle.cqs_resume.proofs.further.begin.Goals as goal
 
-pub returns-in-Some-clause-begun : goal.returns-in-Some-clause-begun
-returns-in-Some-clause-begun g c =
+pub returns-in-Ok-clause-begun : goal.returns-in-Ok-clause-begun
+returns-in-Ok-clause-begun g c =
     let C = g.C.ClientWords in
     let x = pass_view c.add_table-number.new.pass in
     record {
@@ -17,12 +17,12 @@ returns-in-Some-clause-begun g c =
       from = x;
       drew = c.add_table-number.ensures.saw;
       after = c.add_table-number.ensures.after;
-      goes = goes-open C.object C.primitive 63 c.args.payload c.add_table-number.result c.in-Some.resumed x
-          (pass_view c.meet.new.pass) (omega arith) c.in-Some.ensures.met;
+      goes = goes-open C.object C.primitive 63 c.args.payload c.add_table-number.result c.in-Ok.resumed x
+          (pass_view c.meet.new.pass) (omega arith) c.in-Ok.ensures.met;
     }
 
-pub returns-in-Some-clause-ample : goal.returns-in-Some-clause-ample
-returns-in-Some-clause-ample g c = λ ample.
+pub returns-in-Ok-clause-ample : goal.returns-in-Ok-clause-ample
+returns-in-Ok-clause-ample g c = λ ample.
     let C = g.C.ClientWords in
     let x = pass_view c.add_table-number.new.pass in
     record {
@@ -30,22 +30,22 @@ returns-in-Some-clause-ample g c = λ ample.
       from = x;
       drew = c.add_table-number.ensures.saw;
       after = c.add_table-number.ensures.after;
-      resumes = goes-amply C.object C.primitive 63 c.args.payload (Some c.add_table-number.result) c.in-Some.resumed x
+      resumes = goes-amply C.object C.primitive 63 c.args.payload (Some c.add_table-number.result) c.in-Ok.resumed x
           (pass_view c.meet.new.pass)
           (ample-view c.args.queue.now c.add_table-number.new.pass c.add_table-number.ensures.belongs ample)
-          (goes-open C.object C.primitive 63 c.args.payload c.add_table-number.result c.in-Some.resumed x
-          (pass_view c.meet.new.pass) (omega arith) c.in-Some.ensures.met);
+          (goes-open C.object C.primitive 63 c.args.payload c.add_table-number.result c.in-Ok.resumed x
+          (pass_view c.meet.new.pass) (omega arith) c.in-Ok.ensures.met);
     }
 
-pub returns-in-None-clause-begun : goal.returns-in-None-clause-begun
-returns-in-None-clause-begun g c =
+pub returns-in-Err-clause-begun : goal.returns-in-Err-clause-begun
+returns-in-Err-clause-begun g c =
     let C = g.C.ClientWords in
     let k = c.add_table-number.result in
     let x = pass_view c.add_table-number.new.pass in
     let u = pass_view c.meet.new.pass in
     let w = pass_view c.go_on.new.pass in
     let t = went-open C.object C.primitive passes_over state.Cancelled doing.Owes
-    (k ∷ []) c.args.payload k x u c.in-None.ensures.met in
+    (k ∷ []) c.args.payload k x u c.in-Err.ensures.met.0 in
     record {
       number = k;
       from = x;
@@ -55,15 +55,15 @@ returns-in-None-clause-begun g c =
           c.go_on.ensures.resumed;
     }
 
-pub returns-in-None-clause-ample : goal.returns-in-None-clause-ample
-returns-in-None-clause-ample g c = λ ample.
+pub returns-in-Err-clause-ample : goal.returns-in-Err-clause-ample
+returns-in-Err-clause-ample g c = λ ample.
     let C = g.C.ClientWords in
     let k = c.add_table-number.result in
     let x = pass_view c.add_table-number.new.pass in
     let u = pass_view c.meet.new.pass in
     let w = pass_view c.go_on.new.pass in
     let t = went-open C.object C.primitive passes_over state.Cancelled doing.Owes
-    (k ∷ []) c.args.payload k x u c.in-None.ensures.met in
+    (k ∷ []) c.args.payload k x u c.in-Err.ensures.met.0 in
     record {
       number = c.add_table-number.result;
       from = x;

@@ -1,7 +1,9 @@
-use Rattle.std.proofs.Common.{◌∷◌, [], Some, refl, sym, ap, ◌∙◌, subst, inl, inr, arith}
+use Rattle.std.proofs.Common.{◌/◌, ◌∷◌, [], Ok, refl, sym, ap, ◌∙◌, subst, inl, inr, arith}
 use Rattle.cqs_core.specs.declared.cells.CoreState.TheVariants as state
 use Rattle.cqs_core.specs.declared.doings.Doing.TheVariants as doing
 use Rattle.cqs_core.specs.QueueSteps.{serves, leaves, delegates, passes_over, ends_refused}
+use Rattle.cqs_rule.specs.Passes.{pass_view}
+use Rattle.cqs_find.proofs.Numbers.{outs-grow}
 use Rattle.cqs_rule_laws.proofs.CellSteps.{shown-injective}
 use Rattle.cqs_resume.proofs.OneNumber.{stays-searched, stays-missed, way-searched, tried-first, tried-next, way-stayed, worked-by, worked-gone, worked-over, worked-refused, met-by, end-serves, end-leaves, end-delegates, end-refused, end-over, ended-refused}
 use Rattle.cqs_resume.specs.declared.resumed.Resumed.TheVariants.{Refused}
@@ -114,9 +116,12 @@ returns-in-Cancelled g c =
     let C = g.C.ClientWords in
     let l = c.loop-state.invariant in record {
       belongs = c.look.ensures.belongs;
-      met = met-by C.object C.primitive passes_over state.Cancelled doing.Owes (λ k. k ∷ []) _ _ _ _ _ _ _ l.number
-          (end-over C.object.gains _) (omega arith) c.requires.payload l.tried.way
-          (worked-over C.object C.primitive _ _ _ _ c.look.ensures.looks c.in-Cancelled.is);
+      met = (
+        met-by C.object C.primitive passes_over state.Cancelled doing.Owes (λ k. k ∷ []) _ _ _ _ _ _ _ l.number
+            (end-over C.object.gains _) (omega arith) c.requires.payload l.tried.way
+            (worked-over C.object C.primitive _ _ _ _ c.look.ensures.looks c.in-Cancelled.is),
+        λ k low below. absurd (omega arith),
+      );
     }
 
 pub complete_refused_resume-requires-clause-ended : goal.complete_refused_resume-requires-clause-ended
@@ -132,7 +137,7 @@ pub returns-in-Refused-clause-met : goal.returns-in-Refused-clause-met
 returns-in-Refused-clause-met g c =
     let C = g.C.ClientWords in
     let l = c.loop-state.invariant in
-    subst (λ r. HasMet c.args.payload c.args.number c.args.pass.now (Some (Refused c.args.number)) r)
+    subst (λ r. HasMet c.args.payload c.args.number c.args.pass.now (Ok (Refused c.args.number)) r)
     (sym c.complete_refused_resume.ensures.same) (
       refl,
       met-by C.object C.primitive ends_refused state.Refused doing.Idle (λ _. []) _ _ _ _ _ _ _ l.number
@@ -143,8 +148,21 @@ returns-in-Refused-clause-met g c =
 pub returns-in-Ok-Over-clause-met : goal.returns-in-Ok-Over-clause-met
 returns-in-Ok-Over-clause-met g c =
     let C = g.C.ClientWords in
+    let u = pass_view c.locate.new.pass in
+    let x = pass_view c.place_after-after.new.pass in
+    let w = pass_view c.pass_over.new.pass in
     let way = way-stayed C.object C.primitive 0 _ _ _ _
     (way-searched C.object C.primitive _ _ _ c.locate.ensures.searched) c.place_after-after.ensures.stayed in
-    met-by C.object C.primitive passes_over state.Cancelled doing.Owes (λ k. k ∷ []) 0 _ _ _ _ _ _
-    c.place_after-after.ensures.index (end-over C.object.gains _) (omega arith) c.requires.payload way
-    (worked-gone C.object C.primitive _ _ _ _ c.pass_over.ensures.over)
+    let taken = rw c.in-Ok-Over.field-0-is at c.in-Ok-Over.ensures.locates in
+    let then = c.place_after-after.ensures.stayed.segments in
+    let over = c.pass_over.ensures.over in
+    let last = over.saw.same.segments in (
+      met-by C.object C.primitive passes_over state.Cancelled doing.Owes (λ k. k ∷ []) 0 _ _ _ _ _ _
+          c.place_after-after.ensures.index (end-over C.object.gains _) (omega arith) c.requires.payload way
+          (worked-gone C.object C.primitive _ _ _ _ over),
+      λ k low below.
+          let next = taken.next_is in
+          outs-grow x w (k / 32) last
+          (outs-grow u x (k / 32) then
+          (taken.out (k / 32) (omega arith) (omega arith))),
+    )

@@ -8,54 +8,54 @@ use Rattle.cqs_rule.specs.Passes.{pass_view}
 use Rattle.cqs_rule.proofs.Segments.{ample-view}
 use Rattle.cqs_resume.specs.Resumes.{GoesOn}
 use Rattle.cqs_resume.proofs.Holds.{goes-amply, goes-open, goes-then}
-use Rattle.cqs_resume.proofs.Runs.{further-of, went-open}
+use Rattle.cqs_resume.proofs.Runs.{went-open}
 use Rattle.cqs_resume.proofs.resuming.end.Goals as goal
 
-pub returns-in-Some-meet-clause-resumed : goal.returns-in-Some-meet-clause-resumed
-returns-in-Some-meet-clause-resumed g c =
+pub returns-in-Ok-clause-resumed : goal.returns-in-Ok-clause-resumed
+returns-in-Ok-clause-resumed g c =
     let C = g.C.ClientWords in
     let spent = c.spend_under-payload in
     let k = c.in-Some.number in
     let v = pass_view spent.new.pass in
     let w = pass_view c.meet.new.pass in
     let ticket : Some k ≡ under_ticket c.args.under = sym c.in-Some.is ∙ spent.ensures.ticket in
-    let now : GoesOn C.object C.primitive 64 (Some k) spent.result.0 v c.in-Some-meet.resumed w =
-    goes-open C.object C.primitive 64 spent.result.0 k c.in-Some-meet.resumed v w (omega arith)
-    c.in-Some-meet.ensures.met in
+    let now : GoesOn C.object C.primitive 64 (Some k) spent.result.0 v c.in-Ok.resumed w =
+    goes-open C.object C.primitive 64 spent.result.0 k c.in-Ok.resumed v w (omega arith)
+    c.in-Ok.ensures.met in
     subst (λ (z : Option ℕ × ℕ × View g.row.C-Entry.Denot g.row.C-Slot.Denot).
-    GoesOn C.object C.primitive 64 z.0 z.1 z.2 c.in-Some-meet.resumed w)
+    GoesOn C.object C.primitive 64 z.0 z.1 z.2 c.in-Ok.resumed w)
     (λ i. (ticket i, spent.ensures.payload i, pass_view (spent.ensures.same i))) now
 
-pub returns-in-Some-meet-clause-ample : goal.returns-in-Some-meet-clause-ample
-returns-in-Some-meet-clause-ample g c = λ ample.
+pub returns-in-Ok-clause-ample : goal.returns-in-Ok-clause-ample
+returns-in-Ok-clause-ample g c = λ ample.
     let C = g.C.ClientWords in
-    goes-amply C.object C.primitive 64 (under_payload c.args.under) (under_ticket c.args.under) c.in-Some-meet.resumed
+    goes-amply C.object C.primitive 64 (under_payload c.args.under) (under_ticket c.args.under) c.in-Ok.resumed
     (pass_view c.args.pass.now) (pass_view c.meet.new.pass)
     (ample-view c.args.queue.now c.args.pass.now c.requires.belongs ample)
-    (returns-in-Some-meet-clause-resumed g c)
+    (returns-in-Ok-clause-resumed g c)
 
-pub returns-in-None-clause-resumed : goal.returns-in-None-clause-resumed
-returns-in-None-clause-resumed g c =
+pub returns-in-Err-clause-resumed : goal.returns-in-Err-clause-resumed
+returns-in-Err-clause-resumed g c =
     let C = g.C.ClientWords in
     let spent = c.spend_under-payload in
     let k = c.in-Some.number in
     let v = pass_view spent.new.pass in
     let u = pass_view c.meet.new.pass in
-    let w = pass_view c.go_on-in-None.new.pass in
+    let w = pass_view c.go_on-in-Err.new.pass in
     let ticket : Some k ≡ under_ticket c.args.under = sym c.in-Some.is ∙ spent.ensures.ticket in
     let t = went-open C.object C.primitive passes_over state.Cancelled doing.Owes
-    (k ∷ []) spent.result.0 k v u c.in-None.ensures.met in
-    let now : GoesOn C.object C.primitive 64 (Some k) spent.result.0 v c.go_on-in-None.result w =
-    goes-then C.object C.primitive false 64 spent.result.0 k c.go_on-in-None.result v u w t tt
-    c.go_on-in-None.ensures.resumed in
+    (k ∷ []) spent.result.0 k v u c.in-Err.ensures.met.0 in
+    let now : GoesOn C.object C.primitive 64 (Some k) spent.result.0 v c.go_on-in-Err.result w =
+    goes-then C.object C.primitive false 64 spent.result.0 k c.go_on-in-Err.result v u w t tt
+    c.go_on-in-Err.ensures.resumed in
     subst (λ (z : Option ℕ × ℕ × View g.row.C-Entry.Denot g.row.C-Slot.Denot).
-    GoesOn C.object C.primitive 64 z.0 z.1 z.2 c.go_on-in-None.result w)
+    GoesOn C.object C.primitive 64 z.0 z.1 z.2 c.go_on-in-Err.result w)
     (λ i. (ticket i, spent.ensures.payload i, pass_view (spent.ensures.same i))) now
 
-pub returns-in-None-clause-ample : goal.returns-in-None-clause-ample
-returns-in-None-clause-ample g c = λ ample.
+pub returns-in-Err-clause-ample : goal.returns-in-Err-clause-ample
+returns-in-Err-clause-ample g c = λ ample.
     let C = g.C.ClientWords in
-    goes-amply C.object C.primitive 64 (under_payload c.args.under) (under_ticket c.args.under) c.go_on-in-None.result
-    (pass_view c.args.pass.now) (pass_view c.go_on-in-None.new.pass)
+    goes-amply C.object C.primitive 64 (under_payload c.args.under) (under_ticket c.args.under) c.go_on-in-Err.result
+    (pass_view c.args.pass.now) (pass_view c.go_on-in-Err.new.pass)
     (ample-view c.args.queue.now c.args.pass.now c.requires.belongs ample)
-    (returns-in-None-clause-resumed g c)
+    (returns-in-Err-clause-resumed g c)

@@ -7,20 +7,23 @@ use Rattle.cqs_rule.specs.Passes.{pass_view}
 use Rattle.cqs_resume.specs.declared.resumed.Resumed.TheVariants.{Under}
 use Rattle.cqs_resume.specs.Resumes.{GoesOn}
 use Rattle.cqs_resume.proofs.Holds.{goes-drawn, goes-then}
+use Rattle.cqs_resume.proofs.Leaping.{behind-first, firstly}
 use Rattle.cqs_resume.proofs.Runs.{went-drawn, stopped-now}
 use Rattle.cqs_resume.proofs.resuming.go_on.Goals as goal
 
-pub returns-in-Some-clause-resumed : goal.returns-in-Some-clause-resumed
-returns-in-Some-clause-resumed g c =
+pub returns-in-Ok-clause-resumed : goal.returns-in-Ok-clause-resumed
+returns-in-Ok-clause-resumed g c =
     let C = g.C.ClientWords in
     let l = c.loop-resumed.invariant in
     let k = c.add_table-number.result in
     let v = pass_view c.loop-resumed.pass in
+    let y = pass_view c.leap.new.pass in
     let x = pass_view c.add_table-number.new.pass in
     let w = pass_view c.meet.new.pass in
-    l.rest c.in-Some.resumed w
-    (goes-drawn C.object C.primitive c.loop-resumed.left c.args.payload k c.in-Some.resumed v x w l.some l.payload
-    c.add_table-number.ensures.after c.add_table-number.ensures.saw c.in-Some.ensures.met)
+    let leapt = c.leap.ensures.leapt in
+    l.rest c.in-Ok.resumed w
+    (goes-drawn C.object C.primitive c.loop-resumed.left c.args.payload k c.in-Ok.resumed leapt.0 v y x w l.some
+    l.payload leapt.1 c.add_table-number.ensures.after c.add_table-number.ensures.saw c.in-Ok.ensures.met)
 
 pub returns-then-left-eq0-clause-resumed : goal.returns-then-left-eq0-clause-resumed
 returns-then-left-eq0-clause-resumed g c =
@@ -30,17 +33,21 @@ returns-then-left-eq0-clause-resumed g c =
     let v = pass_view c.loop-resumed.pass in
     let x = pass_view c.add_table-number.new.pass in
     let u = pass_view c.meet.new.pass in
+    let y = pass_view c.leap.new.pass in
+    let leapt = c.leap.ensures.leapt in
     let w = pass_view c.under_of.new.pass in
     let under = c.under_of.ensures in
     let t = went-drawn C.object C.primitive passes_over state.Cancelled doing.Owes
-    (k ∷ []) c.args.payload k v x u l.payload
-    c.add_table-number.ensures.saw c.in_default.ensures.met in
+    (k ∷ []) c.args.payload k leapt.0 v y x u l.payload leapt.1
+    c.add_table-number.ensures.saw c.in-Err.ensures.met.0 in
+    let next = behind-first C.object C.primitive leapt.0 v y k (firstly C.object C.primitive leapt.0 v y leapt.1)
+    c.add_table-number.ensures.after in
     let last : c.loop-resumed.left - 1 ≡ 0 = c.if-left-eq0.true in
     let some = l.some in
     let one : 1 ≡ c.loop-resumed.left = omega arith in
     l.rest (Under c.under_of.result) w
     (subst (λ z. GoesOn C.object C.primitive z None c.args.payload v (Under c.under_of.result) w) one
-    (inl (stopped-now C.object C.primitive c.args.payload k c.under_of.result v u w t c.add_table-number.ensures.after
+    (inl (stopped-now C.object C.primitive c.args.payload k c.under_of.result v u w t next
     (ap pass_view under.same) under.payload under.ticket under.reached under.owes)))
 
 pub loop-resumed-preserved : goal.loop-resumed-preserved
@@ -51,21 +58,26 @@ loop-resumed-preserved g c =
     let v = pass_view c.loop-resumed.pass in
     let x = pass_view c.add_table-number.new.pass in
     let u = pass_view c.meet.new.pass in
+    let y = pass_view c.leap.new.pass in
+    let leapt = c.leap.ensures.leapt in
     let left = c.loop-resumed.left in
     let t = went-drawn C.object C.primitive passes_over state.Cancelled doing.Owes
-    (k ∷ []) c.args.payload k v x u l.payload
-    c.add_table-number.ensures.saw c.in_default.ensures.met in
+    (k ∷ []) c.args.payload k leapt.0 v y x u l.payload leapt.1
+    c.add_table-number.ensures.saw c.in-Err.ensures.met.0 in
+    let next = behind-first C.object C.primitive leapt.0 v y k (firstly C.object C.primitive leapt.0 v y leapt.1)
+    c.add_table-number.ensures.after in
     let some = l.some in
     let few = l.few in
     let more = c.if-left-eq0.false in
     let same : 1 + (left - 1) ≡ left = omega arith in record {
-      belongs = c.in_default.ensures.belongs;
+      belongs = c.in-Err.ensures.belongs;
       owes = ap (λ (f : Facts). f.doing) t.facts_are;
       payload = ap (λ (f : Facts). f.has.payload) t.facts_are ∙ l.payload;
+      out = c.in-Err.ensures.met.1;
       some = omega arith;
       few = omega arith;
       rest = λ result w e. l.rest result w
           (subst (λ z. GoesOn C.object C.primitive z None c.args.payload v result w) same
           (goes-then C.object C.primitive true
-          (left - 1) c.args.payload k result v u w t c.add_table-number.ensures.after e));
+          (left - 1) c.args.payload k result v u w t next e));
     }

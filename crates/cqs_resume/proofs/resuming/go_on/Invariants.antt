@@ -1,6 +1,7 @@
 use Rattle.std.proofs.Common.{◌≡◌, ◌<◌, ◌≤◌, None}
 use Rattle.cqs_core.specs.declared.doings.Doing.TheVariants as doing
 use Rattle.cqs_rule_laws.specs.declared.view.View.{View}
+use Rattle.cqs_rule_laws.specs.Jumped.{AreOut}
 use Rattle.cqs_rule.specs.Passes.{pass_view, IsOf}
 use Rattle.cqs_resume.specs.declared.resumed.Resumed.{Resumed}
 use Rattle.cqs_resume.specs.Resumes.{GoesOn}
@@ -11,6 +12,7 @@ invariant-loop-resumed g l = record {
   belongs : IsOf l.queue l.pass;
   owes : (pass_view l.pass).facts.doing ≡ doing.Owes;
   payload : (pass_view l.pass).facts.has.payload ≡ l.payload;
+  out : AreOut l.from l.to (pass_view l.pass);
   some : 0 < l.left;
   few : l.left ≤ l.most;
   rest : (result : Resumed) (w : View g.row.C-Entry.Denot g.row.C-Slot.Denot)

@@ -1,4 +1,4 @@
-use Rattle.std.proofs.Common.{◌∷◌, [], None, true, arith}
+use Rattle.std.proofs.Common.{◌∷◌, [], None, true, refl, arith}
 use Rattle.cqs_core.specs.declared.cells.CoreState.TheVariants as state
 use Rattle.cqs_core.specs.declared.doings.Doing.TheVariants as doing
 use Rattle.cqs_core.specs.QueueSteps.{passes_over}
@@ -8,23 +8,24 @@ use Rattle.cqs_resume.proofs.Holds.{goes-amply, goes-drawn, goes-then}
 use Rattle.cqs_resume.proofs.Runs.{went-drawn}
 use Rattle.cqs_resume.proofs.resuming.resume.Goals as goal
 
-pub returns-in-Some-clause-resumed : goal.returns-in-Some-clause-resumed
-returns-in-Some-clause-resumed g c =
+pub returns-in-Ok-clause-resumed : goal.returns-in-Ok-clause-resumed
+returns-in-Ok-clause-resumed g c =
     let C = g.C.ClientWords in
-    goes-drawn C.object C.primitive 64 c.args.payload c.add_table-number.result c.in-Some.resumed
-    (pass_view c.args.pass.now) (pass_view c.add_table-number.new.pass) (pass_view c.meet.new.pass) (omega arith)
-    c.requires.payload c.add_table-number.ensures.after c.add_table-number.ensures.saw c.in-Some.ensures.met
+    goes-drawn C.object C.primitive 64 c.args.payload c.add_table-number.result c.in-Ok.resumed None
+    (pass_view c.args.pass.now) (pass_view c.args.pass.now) (pass_view c.add_table-number.new.pass)
+    (pass_view c.meet.new.pass) (omega arith) c.requires.payload refl c.add_table-number.ensures.after
+    c.add_table-number.ensures.saw c.in-Ok.ensures.met
 
-pub returns-in-Some-clause-ample : goal.returns-in-Some-clause-ample
-returns-in-Some-clause-ample g c = λ ample.
+pub returns-in-Ok-clause-ample : goal.returns-in-Ok-clause-ample
+returns-in-Ok-clause-ample g c = λ ample.
     let C = g.C.ClientWords in
-    goes-amply C.object C.primitive 64 c.args.payload None c.in-Some.resumed
+    goes-amply C.object C.primitive 64 c.args.payload None c.in-Ok.resumed
     (pass_view c.args.pass.now) (pass_view c.meet.new.pass)
     (ample-view c.args.queue.now c.args.pass.now c.requires.belongs ample)
-    (returns-in-Some-clause-resumed g c)
+    (returns-in-Ok-clause-resumed g c)
 
-pub returns-in-None-clause-resumed : goal.returns-in-None-clause-resumed
-returns-in-None-clause-resumed g c =
+pub returns-in-Err-clause-resumed : goal.returns-in-Err-clause-resumed
+returns-in-Err-clause-resumed g c =
     let C = g.C.ClientWords in
     let k = c.add_table-number.result in
     let v = pass_view c.args.pass.now in
@@ -32,15 +33,15 @@ returns-in-None-clause-resumed g c =
     let u = pass_view c.meet.new.pass in
     let w = pass_view c.go_on.new.pass in
     let t = went-drawn C.object C.primitive passes_over state.Cancelled doing.Owes
-    (k ∷ []) c.args.payload k v x u c.requires.payload
-    c.add_table-number.ensures.saw c.in-None.ensures.met in
+    (k ∷ []) c.args.payload k None v v x u c.requires.payload refl
+    c.add_table-number.ensures.saw c.in-Err.ensures.met.0 in
     goes-then C.object C.primitive true 63 c.args.payload k c.go_on.result v u w t c.add_table-number.ensures.after
     c.go_on.ensures.resumed
 
-pub returns-in-None-clause-ample : goal.returns-in-None-clause-ample
-returns-in-None-clause-ample g c = λ ample.
+pub returns-in-Err-clause-ample : goal.returns-in-Err-clause-ample
+returns-in-Err-clause-ample g c = λ ample.
     let C = g.C.ClientWords in
     goes-amply C.object C.primitive 64 c.args.payload None c.go_on.result
     (pass_view c.args.pass.now) (pass_view c.go_on.new.pass)
     (ample-view c.args.queue.now c.args.pass.now c.requires.belongs ample)
-    (returns-in-None-clause-resumed g c)
+    (returns-in-Err-clause-resumed g c)

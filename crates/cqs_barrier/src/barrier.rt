@@ -78,15 +78,15 @@ impl Barrier {
 impl Barrier<Unparked> {
     ghost use Rattle.cqs_barrier.specs.Calls.{Rests, IsMine, parties_in};
 
-    /// The same for callers who never park: each looks at its wait when it likes. Such a barrier
-    /// wakes nobody, and so it may stand in a static library. Its table is ample.
+    /// The same as by `new`, for callers who never park: each looks at its wait when it likes. Such
+    /// a barrier wakes nobody, and so it may stand in a static library.
     pub fn unparked(
         alloc: Global,
         parties: u32,
         config: Config,
     ) -> Result<(Barrier<Unparked>, BarrierPass<Unparked>), MakeError>
         ensures bad_config { IsErrOf result MakeError.BadConfig
-            ↔ ((parties ≡ 0) ⊎ (32 < parties) ⊎ (is_small_config config ≡ false)) }
+            ↔ ((parties ≡ 0) ⊎ (32 < parties) ⊎ (is_config config ≡ false)) }
         ensures belongs { IfOk result (λ made. IsMine made.0 made.1) }
         ensures parties { IfOk result (λ made. parties_in made.0 ≡ parties) }
         ensures passes { IfOk result (λ made. (passes_of made.0.queue ≡ config.passes)
@@ -97,9 +97,9 @@ impl Barrier<Unparked> {
         ensures alone { IfOk result (λ made. (pass_view made.1).alone ≡ true) }
         ensures all { IfOk result
             (λ made. Rests (pass_view made.1) parties [] (pass_view made.1)) }
-        ensures ample { IfOk result (λ made. ample_of made.0.queue ≡ true) }
+        ensures slots { IfOk result (λ made. (pass_view made.1).slots ≡ config.slots) }
     {
-        Barrier::make_ample(alloc, parties, config)
+        Barrier::make(alloc, parties, config)
     }
 }
 

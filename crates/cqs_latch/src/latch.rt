@@ -56,12 +56,7 @@ impl Latch {
         ensures ready { IfOk result (λ made. Rests [] (pass_view made.1)) }
         ensures slots { IfOk result (λ made. (pass_view made.1).slots ≡ config.slots) }
     {
-        if count > MOST_COUNTS || config.limit > MOST_LIMIT {
-            return Err(MakeError::BadConfig);
-        }
-        let client = LatchClient::new(count, mode);
-        let (queue, pass) = Queue::new(alloc, config, mode, client)?;
-        Ok((Latch { queue, mode }, pass))
+        Latch::make(alloc, count, mode, config)
     }
 
     /// The same on a table with slots for all segments that can ever be wanted, however few
@@ -93,8 +88,8 @@ impl Latch {
 impl Latch<Unparked> {
     ghost use Rattle.cqs_latch.specs.Calls.{IsMine, Rests};
 
-    /// An ample one for callers who never park: each looks at its wait when it likes. Such a latch
-    /// wakes nobody, and so it may stand in a static library.
+    /// The same as by `new`, for callers who never park: each looks at its wait when it likes. Such
+    /// a latch wakes nobody, and so it may stand in a static library.
     pub fn unparked(
         alloc: Global,
         count: u32,
@@ -102,7 +97,7 @@ impl Latch<Unparked> {
         config: Config,
     ) -> Result<(Latch<Unparked>, LatchPass<Unparked>), MakeError>
         ensures bad_config { IsErrOf result MakeError.BadConfig
-            ↔ ((1048576 < count) ⊎ (is_small_config config ≡ false)) }
+            ↔ ((1048576 < count) ⊎ (4294967232 < config.limit) ⊎ (is_config config ≡ false)) }
         ensures belongs { IfOk result (λ made. IsMine made.0 made.1) }
         ensures count { IfOk result (λ made. count_of (client_of made.0.queue) ≡ count) }
         ensures mode { IfOk result (λ made. mode_of (client_of made.0.queue) ≡ mode) }
@@ -113,15 +108,44 @@ impl Latch<Unparked> {
         ensures nothing { IfOk result (λ made. (pass_view made.1).seen ≡ []) }
         ensures alone { IfOk result (λ made. (pass_view made.1).alone ≡ true) }
         ensures ready { IfOk result (λ made. Rests [] (pass_view made.1)) }
-        ensures ample { IfOk result (λ made. ample_of made.0.queue ≡ true) }
+        ensures slots { IfOk result (λ made. (pass_view made.1).slots ≡ config.slots) }
     {
-        Latch::make_ample(alloc, count, mode, config)
+        Latch::make(alloc, count, mode, config)
     }
 }
 
 impl<T: Carries + Send> Latch<T> {
     ghost use Rattle.cqs_latch.specs.Calls.{IsMine, Rests};
 
+    fn make(
+        alloc: Global,
+        count: u32,
+        mode: CancelMode,
+        config: Config,
+    ) -> Result<(Latch<T>, LatchPass<T>), MakeError>
+        ensures bad_config { IsErrOf result MakeError.BadConfig
+            ↔ ((1048576 < count) ⊎ (4294967232 < config.limit) ⊎ (is_config config ≡ false)) }
+        ensures belongs { IfOk result (λ made. IsMine made.0 made.1) }
+        ensures count { IfOk result (λ made. count_of (client_of made.0.queue) ≡ count) }
+        ensures mode { IfOk result (λ made. mode_of (client_of made.0.queue) ≡ mode) }
+        ensures passes { IfOk result (λ made. (passes_of made.0.queue ≡ config.passes)
+            × (limit_of made.0.queue ≡ config.limit)) }
+        ensures first { IfOk result (λ made. (pass_view made.1).number ≡ 0) }
+        ensures own { IfOk result (λ made. (pass_view made.1).own ≡ 0 ∷ []) }
+        ensures nothing { IfOk result (λ made. (pass_view made.1).seen ≡ []) }
+        ensures alone { IfOk result (λ made. (pass_view made.1).alone ≡ true) }
+        ensures ready { IfOk result (λ made. Rests [] (pass_view made.1)) }
+        ensures slots { IfOk result (λ made. (pass_view made.1).slots ≡ config.slots) }
+    {
+        if count > MOST_COUNTS || config.limit > MOST_LIMIT {
+            return Err(MakeError::BadConfig);
+        }
+        let client = LatchClient::new(count, mode);
+        let (queue, pass) = Queue::new(alloc, config, mode, client)?;
+        Ok((Latch { queue, mode }, pass))
+    }
+
+    // The same on an ample table.
     fn make_ample(
         alloc: Global,
         count: u32,

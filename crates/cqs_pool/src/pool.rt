@@ -80,7 +80,7 @@ impl Pool {
 impl Pool<Unparked> {
     ghost use Rattle.cqs_pool.specs.Calls.{Rests, IsMine, size_of};
 
-    /// The same as by `ample`, of a pool whose callers never park, which wakes nobody.
+    /// The same as by `new`, of a pool whose callers never park, which wakes nobody.
     pub fn unparked(
         alloc: Global,
         elements: u32,
@@ -89,7 +89,7 @@ impl Pool<Unparked> {
         ensures bad_config { IsErrOf result MakeError.BadConfig
             ↔ ((elements ≡ 0) ⊎ (4096 < elements)
             ⊎ (config.slots < 2 * config.passes + 2 + elements / 32 + 1)
-            ⊎ (is_small_config config ≡ false)) }
+            ⊎ (is_config config ≡ false)) }
         ensures belongs { IfOk result (λ made. IsMine made.0 made.1) }
         ensures size { IfOk result (λ made. size_of made.0 ≡ elements) }
         ensures passes { IfOk result (λ made. (passes_of made.0.queue ≡ config.passes)
@@ -99,9 +99,9 @@ impl Pool<Unparked> {
         ensures nothing { IfOk result (λ made. (pass_view made.1).seen ≡ []) }
         ensures alone { IfOk result (λ made. (pass_view made.1).alone ≡ true) }
         ensures ready { IfOk result (λ made. Rests (pass_view made.1) [] [] (pass_view made.1)) }
-        ensures ample { IfOk result (λ made. ample_of made.0.queue ≡ true) }
+        ensures slots { IfOk result (λ made. (pass_view made.1).slots ≡ config.slots) }
     {
-        Pool::make_ample(alloc, elements, config)
+        Pool::make(alloc, elements, config)
     }
 }
 

@@ -91,15 +91,15 @@ impl Semaphore {
 impl Semaphore<Unparked> {
     ghost use Rattle.cqs_semaphore.specs.Calls.{Rests, IsMine, permits_in};
 
-    /// As `ample`, for callers who never park: each looks at its wait when it likes. Such a
-    /// semaphore wakes nobody, and so it may stand in a static library.
+    /// As `new`, for callers who never park: each looks at its wait when it likes. Such a semaphore
+    /// wakes nobody, and so it may stand in a static library.
     pub fn unparked(
         alloc: Global,
         permits: u32,
         config: Config,
     ) -> Result<(Semaphore<Unparked>, SemPass<Unparked>), MakeError>
         ensures bad_config { IsErrOf result MakeError.BadConfig
-            ↔ ((permits ≡ 0) ⊎ (1048576 < permits) ⊎ (is_small_config config ≡ false)) }
+            ↔ ((permits ≡ 0) ⊎ (1048576 < permits) ⊎ (is_config config ≡ false)) }
         ensures belongs { IfOk result (λ made. IsMine made.0 made.1) }
         ensures permits { IfOk result (λ made. permits_in made.0 ≡ permits) }
         ensures passes { IfOk result (λ made. (passes_of made.0.queue ≡ config.passes)
@@ -109,13 +109,13 @@ impl Semaphore<Unparked> {
         ensures nothing { IfOk result (λ made. (pass_view made.1).seen ≡ []) }
         ensures alone { IfOk result (λ made. (pass_view made.1).alone ≡ true) }
         ensures ready { IfOk result (λ made. Rests (pass_view made.1) 0 [] (pass_view made.1)) }
-        ensures ample { IfOk result (λ made. ample_of made.0.queue ≡ true) }
+        ensures slots { IfOk result (λ made. (pass_view made.1).slots ≡ config.slots) }
     {
         if permits == 0 || permits > MOST_PERMITS {
             return Err(MakeError::BadConfig);
         }
-        let client = SemClient::unparked(permits);
-        let (queue, pass) = Queue::ample(alloc, config, CancelMode::Smart, client)?;
+        let mode = CancelMode::Smart;
+        let (queue, pass) = Queue::new(alloc, config, mode, SemClient::unparked(permits))?;
         Ok((Semaphore { queue }, pass))
     }
 }

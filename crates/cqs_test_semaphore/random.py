@@ -1,13 +1,11 @@
 #!/usr/bin/env python3
 """Writes data/random.calls: calls of one caller at random, on a plain semaphore with a plain line.
 
-It knows nothing of the crates. A wait is a number in a list; one that gave up stays in the list of
-numbers that a release has still to come past, at most 64 of them a call.
+It knows nothing of the crates. A wait is a number in a list, and one that gave up is in it no more:
+however many did, a release comes to the first of the line.
 """
 
 import random
-
-MOST_PASSED_OVER = 64
 
 
 class Semaphore:
@@ -15,8 +13,8 @@ class Semaphore:
 
     def __init__(self, permits, limit):
         self.free, self.limit = permits, limit
-        self.drawn = self.reached = self.held = 0
-        self.line, self.served, self.owes = [], set(), False
+        self.drawn = self.held = 0
+        self.line, self.served = [], set()
 
     def state(self):
         return self.free - len(self.line)
@@ -67,17 +65,7 @@ class Semaphore:
         if not self.line:
             self.free += 1
             return "Freed"
-        return self.send()
-
-    def send(self):
-        """Comes to the first of the line, past the numbers of those who gave up."""
-        first = self.line[0]
-        self.owes = first - self.reached >= MOST_PASSED_OVER
-        if self.owes:
-            self.reached += MOST_PASSED_OVER
-            return f"Under {self.reached - 1}"
-        self.reached = first + 1
-        self.line.pop(0)
+        first = self.line.pop(0)
         self.served.add(first)
         return f"Sent {first}"
 
@@ -87,9 +75,6 @@ def run(draw, permits, limit, calls, *phases):
     lines = [f"semaphore {permits} 1 {limit} {limit // 32 + 8}: Ok"]
     for number in range(calls):
         weights = phases[number // 250 % len(phases)]
-        if one.owes:
-            lines.append(f"finish: {one.send()}")
-            continue
         verb = draw.choices(["acquire", "try", "poll", "cancel", "release", "state", "held"], weights)[0]
         known = one.line + sorted(one.served)
         wait = draw.choice(known) if known and draw.random() < 0.95 else draw.randrange(limit)

@@ -3,6 +3,6 @@
 
 mod contended;
 mod crew;
-mod owing;
+mod passing;
 mod two_parties;
 mod withdrawing;

@@ -181,7 +181,7 @@ fn comes_and_goes(latch: &Latch, pass: &mut LatchPass, times: u32) -> bool
 }
 
 #[test]
-fn an_opening_hands_back_after_64_numbers_and_finish_goes_on(rt: HostRuntime) -> Result<(), Fail> {
+fn an_opening_passes_over_150_who_left(rt: HostRuntime) -> Result<(), Fail> {
     let config = Config {
         passes: 1,
         limit: 256,
@@ -193,17 +193,11 @@ fn an_opening_hands_back_after_64_numbers_and_finish_goes_on(rt: HostRuntime) ->
         panic!(rt; "nothing was counted down");
     };
     assert_eq!(rt; wait.number(), 150);
-    let Ok(Down::LastOwing(owed)) = latch.count_down(&mut pass) else {
-        panic!(rt; "numbers 0 to 63 had left");
-    };
-    let Err(owed) = latch.finish(&mut pass, owed) else {
-        panic!(rt; "and so had numbers 64 to 127");
-    };
-    let Ok(()) = latch.finish(&mut pass, owed) else {
+    let Ok(Down::Last) = latch.count_down(&mut pass) else {
         panic!(rt; "number 150 waits");
     };
     let LatchPolled::Through = latch.poll(&mut pass, wait) else {
-        panic!(rt; "the finish resumed who waits");
+        panic!(rt; "the opening resumed who waits");
     };
     Ok(())
 }

@@ -5,6 +5,8 @@
 #[cfg(test)]
 mod core_calls;
 #[cfg(test)]
+mod jumps;
+#[cfg(test)]
 mod line;
 #[cfg(test)]
 mod packed_words;

@@ -37,8 +37,8 @@ pub fn has(pass: &Pass<SemClient>, held: u32, waits: u32, owes: bool) -> bool {
     pass.held() == held && pass.waits() == waits && pass.owes() == owes
 }
 
-// Whether the permit that was given back goes to one who waits.
-fn is_for_one(given: PackedState) -> bool
+/// Whether the permit that was given back goes to one who waits.
+pub fn is_for_one(given: PackedState) -> bool
     ensures { IsTrue result → is_below_zero given.word ≡ true }
 {
     given.word == 4_294_967_295 && given.is_below_zero()

@@ -15,8 +15,8 @@ use cqs_suspend::{Suspended, suspend};
 use std::process::Abort;
 use std::test::Fail;
 
-// Of 102 cells, so of 4 segments.
-const CONFIG: Config = Config {
+/// Of 102 cells, so of 4 segments.
+pub const CONFIG: Config = Config {
     passes: 2,
     limit: 100,
     slots: 9,
@@ -61,9 +61,9 @@ fn segments_of_a_table_that_opens(rt: HostRuntime) -> Result<(), Fail> {
     Ok(())
 }
 
-// Where no permit is free, one more comes to wait in line. In a table of few slots one is claimed
-// before, for the segment of the number.
-fn come(rt: &impl Abort, queue: &Queue<SemClient>, pass: &mut Pass<SemClient>) -> Wait
+/// Where no permit is free, one more comes to wait in line. In a table of few slots one is claimed
+/// before, for the segment of the number.
+pub fn come(rt: &impl Abort, queue: &Queue<SemClient>, pass: &mut Pass<SemClient>) -> Wait
     requires belongs { IsOf queue.now pass.old }
     requires idle { (pass_view pass.old).facts.doing ≡ Idle }
     ensures belongs { IsOf queue.now pass.new }
@@ -94,8 +94,8 @@ fn come_and_leave(rt: &impl Abort, queue: &Queue<SemClient>, pass: &mut Pass<Sem
     };
 }
 
-// As many do as a segment has cells.
-fn leave_a_segment(rt: &impl Abort, queue: &Queue<SemClient>, pass: &mut Pass<SemClient>)
+/// As many do as a segment has cells.
+pub fn leave_a_segment(rt: &impl Abort, queue: &Queue<SemClient>, pass: &mut Pass<SemClient>)
     requires belongs { IsOf queue.now pass.old }
     requires idle { (pass_view pass.old).facts.doing ≡ Idle }
     ensures belongs { IsOf queue.now pass.new }
@@ -113,7 +113,7 @@ fn a_slot_is_used_again(rt: HostRuntime) -> Result<(), Fail> {
     assert!(rt; next_wait(&queue, &mut pass) == 0);
     assert!(rt; take_permit(&queue, &mut pass).word == 4_294_967_297);
     leave_a_segment(&rt, &queue, &mut pass);
-    let Found::Over = queue.find_segment(&mut pass, 0) else {
+    let Found::Over(1) = queue.find_segment(&mut pass, 0) else {
         panic!(rt; "all its cells are settled");
     };
     assert!(rt; pass.spares() == 0);
@@ -147,7 +147,7 @@ fn four_slots_serve_a_hundred_segments(rt: HostRuntime) -> Result<(), Fail> {
     }
     assert!(rt; next_wait(&queue, &mut pass) == 3_200);
     assert!(rt; queue.last_segment(&mut pass).id == 99);
-    let Found::Over = queue.find_segment(&mut pass, 98) else {
+    let Found::Over(99) = queue.find_segment(&mut pass, 98) else {
         panic!(rt; "all its cells are settled");
     };
     Ok(())

@@ -173,11 +173,7 @@ fn a_put_passes_over_who_left(rt: HostRuntime) -> Result<(), Fail> {
     let element = take_now(&rt, &pool, &mut pass, 0);
     come_and_leave(&rt, &pool, &mut pass, 1, 71);
     let _wait = take_later(&rt, &pool, &mut pass, 71);
-    let Ok(Placed::Under(under)) = pool.put(&mut pass, element) else {
-        panic!(rt; "one call passes over 64 numbers");
-    };
-    assert!(rt; under.reached() == 64);
-    let Placed::Sent(sent) = pool.finish(&mut pass, under) else {
+    let Ok(Placed::Sent(sent)) = pool.put(&mut pass, element) else {
         panic!(rt; "the last of the line stands in its cell");
     };
     assert!(rt; sent == 71);

@@ -1,5 +1,4 @@
-//! The last party passes over 65 waiters who have left, of which one call passes over 64 at most,
-//! and finishes what it owes.
+//! The last party passes over 65 waiters who have left, in one call.
 
 ghost use Rattle.std.specs.Prelude.{◌≡◌, ◌<◌, IsTrue};
 ghost use Rattle.cqs_rule.specs.Passes.{pass_view};
@@ -35,7 +34,7 @@ fn come_and_go(barrier: &Barrier, pass: &mut BarrierPass) -> bool
 }
 
 #[test]
-fn the_last_finishes_what_it_owes(rt: HostRuntime) -> Result<(), Fail> {
+fn the_last_passes_over_65_who_left(rt: HostRuntime) -> Result<(), Fail> {
     let (barrier, mut pass) = Barrier::new(rt.alloc(), 2, CONFIG)?;
     let Ok(mut second) = barrier.split(&mut pass, 1) else {
         panic!(rt; "two passes may be made");
@@ -49,10 +48,7 @@ fn the_last_finishes_what_it_owes(rt: HostRuntime) -> Result<(), Fail> {
         panic!(rt; "the other party has not arrived");
     };
     assert_eq!(rt; wait.number(), 65);
-    let Ok(Arrived::LastOwing(owing)) = barrier.arrive(&mut pass) else {
-        panic!(rt; "more waiters have left than one call passes over");
-    };
-    let Ok(()) = barrier.finish(&mut pass, owing) else {
+    let Ok(Arrived::Last) = barrier.arrive(&mut pass) else {
         panic!(rt; "the one who waits is next");
     };
     let PartyPolled::Through = barrier.poll(&mut second, wait) else {

@@ -9,6 +9,7 @@ mod contended;
 mod latches;
 mod mailboxes;
 mod mutexes;
+mod passed;
 mod pools;
 mod rounds;
 mod rows;
@@ -37,6 +38,8 @@ const SLEEP: u64 = 16;
 #[derive(Clone, Copy, Drop)]
 enum Alone {
     Semaphore(Round),
+    /// Of a permit that comes past so many who left.
+    Passed(u64),
     Line,
     Wakes(Wakes),
     Mutex,
@@ -50,6 +53,8 @@ fn alone_of(word: &str) -> Option<Alone> {
         "leave" => Some(Alone::Semaphore(Round::Leave)),
         "leave-behind" => Some(Alone::Semaphore(Round::LeaveBehind)),
         "served" => Some(Alone::Semaphore(Round::Served)),
+        "past-320" => Some(Alone::Passed(320)),
+        "past-3200" => Some(Alone::Passed(3200)),
         "waiting" => Some(Alone::Line),
         "wake-guarded" => Some(Alone::Wakes(Wakes::Guarded)),
         "wake-never" => Some(Alone::Wakes(Wakes::Never)),
@@ -118,6 +123,7 @@ fn time_alone<R: Clock + Wait + AllocGlobal>(
 ) -> anyhow::Result<u64> {
     match alone {
         Alone::Semaphore(round) => semaphores::time(rt, round, count),
+        Alone::Passed(left) => passed::time(rt, left, count),
         Alone::Line => semaphores::time_waiting(rt, count),
         Alone::Wakes(wakes) => wakes::time(rt, wakes, count),
         Alone::Mutex => mutexes::time_free(rt, count),
@@ -150,6 +156,10 @@ fn tell_alone<R: Clock + Wait + Print + AllocGlobal>(
     count: u64,
     runs: u32,
 ) -> anyhow::Result<()> {
+    let count = match alone {
+        Alone::Passed(left) => passed::rounds_of(left, count),
+        _ => count,
+    };
     let mut times = Vec::new(rt.alloc());
     for _ in 0..runs {
         times.push(each(time_alone(rt, alone, count)?, count))?;

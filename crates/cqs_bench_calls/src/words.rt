@@ -5,9 +5,9 @@ use std::io;
 use std::process::ExitCode;
 
 const USAGE: &str = "usage: cqs_bench_calls queue free | pairs | leaves [ROUNDS]\n       \
-    cqs_bench_calls primitives free | leave | leave-behind | served | waiting | wake-guarded \
-    | wake-never | mutex-free | pool-free | mailbox-free | contended | pool | latch | barrier \
-    | mailbox [ROUNDS [RUNS]]";
+    cqs_bench_calls primitives free | leave | leave-behind | served | past-320 | past-3200 \
+    | waiting | wake-guarded | wake-never | mutex-free | pool-free | mailbox-free | contended \
+    | pool | latch | barrier | mailbox [ROUNDS [RUNS]]";
 
 const BAD_COMMAND: u8 = 2;
 

@@ -61,6 +61,11 @@ impl Bench {
         self.row(peer, word, 1, self.rounds, make);
     }
 
+    /// The same of so many times fewer rounds.
+    pub fn alone_fewer(&self, peer: &str, word: &str, fewer: u64, make: impl Fn(u64) -> u64) {
+        self.row(peer, word, 1, (self.rounds / fewer).max(1), make);
+    }
+
     /// Prints a row of rounds that threads share, each with as many.
     pub fn shared(&self, peer: &str, word: &str, threads: u64, waiting: Waiting, round: impl Fn(&mut u64) + Sync) {
         let count = match waiting {

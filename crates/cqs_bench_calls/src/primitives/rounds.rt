@@ -38,9 +38,9 @@ fn leave_round(semaphore: &Semaphore, pass: &mut SemPass) -> bool
     }
 }
 
-// The pass that has the permit waits for it, gives it back, and is served. No value moves.
+/// The pass that has the permit waits for it, gives it back, and is served. No value moves.
 #[inline(always)]
-fn served_round<T: Carries + Send>(
+pub fn served_round<T: Carries + Send>(
     semaphore: &Semaphore<T>,
     pass: &mut SemPass<T>,
     permit: Permit,
@@ -78,6 +78,7 @@ pub fn free_rounds(semaphore: &Semaphore, pass: &mut SemPass, count: u64) -> boo
 #[inline(always)]
 pub fn leave_rounds(semaphore: &Semaphore, pass: &mut SemPass, count: u64) -> bool
     requires idle { IsIdle semaphore.now pass.old }
+    ensures idle { IsTrue result → IsIdle semaphore.now pass.new }
 {
     for _ in 0..count {
         if !leave_round(semaphore, pass) {

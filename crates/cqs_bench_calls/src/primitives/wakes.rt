@@ -11,7 +11,7 @@ use cqs_semaphore::{Acquired, SemPass, Semaphore};
 use std::rt::Clock;
 use std::time::Instant;
 
-/// One pass, and as many waits as a queue may have.
+/// One pass, and few slots, which are used again.
 const CONFIG: Config = Config {
     passes: 1,
     limit: 1 << 20,
@@ -30,7 +30,7 @@ pub enum Wakes {
 /// The nanoseconds of so many rounds, on a semaphore of one permit of its own.
 pub fn time<R: Clock + AllocGlobal>(rt: &R, wakes: Wakes, count: u64) -> anyhow::Result<u64> {
     match wakes {
-        Wakes::Guarded => match Semaphore::ample(rt.alloc(), 1, CONFIG) {
+        Wakes::Guarded => match Semaphore::new(rt.alloc(), 1, CONFIG) {
             Ok((semaphore, pass)) => time_apart(rt, &semaphore, pass, count),
             Err(_) => anyhow::bail!("no memory for the semaphore"),
         },

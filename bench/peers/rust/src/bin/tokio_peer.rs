@@ -45,6 +45,26 @@ fn leave(count: u64, live: usize) -> u64 {
     })
 }
 
+/// The holder waits for the permit past so many others who came and left, which isn't in the time; gives it back, and is served.
+fn past(count: u64, left: u64) -> u64 {
+    let semaphore = Semaphore::new(1);
+    let mut permit = semaphore.try_acquire().ok();
+    let mut nanoseconds = 0;
+    for _ in 0..count {
+        for _ in 0..left {
+            assert!(look(pin!(semaphore.acquire())).is_none());
+        }
+        nanoseconds += clock(|| {
+            let mut wait = pin!(semaphore.acquire());
+            assert!(look(wait.as_mut()).is_none());
+            drop(permit.take());
+            permit = look(wait).and_then(Result::ok);
+        });
+        assert!(permit.is_some());
+    }
+    nanoseconds
+}
+
 /// So many waiters stand in line at once.
 fn waiting(count: u64) -> u64 {
     let semaphore = Semaphore::new(1);
@@ -67,6 +87,9 @@ fn main() {
     }
     bench.alone("tokio", "free", free);
     bench.alone("tokio", "served", served);
+    for left in [320, 3200] {
+        bench.alone_fewer("tokio", &format!("past-{left}"), left, |count| past(count, left));
+    }
     bench.alone("tokio", "leave", |count| leave(count, 0));
     bench.alone("tokio", "leave-behind", |count| leave(count, LIVE));
     bench.alone("tokio", "mutex-free", |count| {

@@ -29,7 +29,9 @@
  * to another primitive, where this one has one like it: then that one is meant.
  *
  * Memory. `new` and `split` allocate, by malloc; no other call does. Each pass has room for `waits`
- * waits, and a call that would wait is refused as CQS_FULL where they are used up.
+ * waits, and a call that would wait is refused as CQS_FULL where they are used up. That room takes 8
+ * bytes a wait; and `new` makes slots for the waits of all passes, which are used again: 12 bytes a
+ * wait, and 384 bytes for each of `2 * passes + 2` more, whatever the limit.
  *
  * Proved of the library behind this header: its three exports are safe and end, where the pointer
  * is good; at null `cqs_call` answers so, and else what the call by number answered; and each call
@@ -92,7 +94,8 @@ enum {
     CQS_LEFT = 28,          /* it was left for the wait of this number, which is about to begin or
                                to end */
     CQS_VOID = 29,          /* the wait of this number had left, and the permit is free */
-    CQS_UNDER = 30,         /* 64 numbers were passed over, and the rest is owed: finish */
+    CQS_UNDER = 30,         /* 64 numbers were passed over, or there is no slot for the next one,
+                               and the rest is owed: finish */
     CQS_STATE = 31,         /* state: the free permits, less those who wait with none on its way */
     CQS_SOLE = 32,          /* sole: 1 where no other pass is there, else 0 */
     CQS_MADE = 33,          /* split: the number of the new pass */
@@ -108,8 +111,11 @@ enum {
     CQS_ALREADY = 41,       /* count_down: the count was used up before */
     CQS_FINISHED = 42,      /* finish: all that was owed is done */
     /* Refused; nothing has changed. The export says CQS_NO_PERMIT. */
-    CQS_NO_PARTY = 43       /* arrive: the pass holds no party; split of a barrier: or fewer than
+    CQS_NO_PARTY = 43,      /* arrive: the pass holds no party; split of a barrier: or fewer than
                                it is to give */
+    /* Refused; the pass has what it had, with what it was to give. A later try may succeed. */
+    CQS_CROWDED = 44        /* a call that may wait, or that gives back: there is no slot for the
+                               cells of more waits by now. See below, at `new` */
 };
 
 /* The name of an answer, in small letters: "now" of CQS_NOW. */
@@ -120,7 +126,7 @@ static inline const char *cqs_answer_name(uint32_t answer) {
         "later", "got", "none free", "contended", "granted", "pending", "cancelled",
         "cancelled owing", "too late", "freed", "sent", "left", "void", "under", "state", "sole",
         "made", "met", "took", "passed", "through", "counted", "last", "last owing", "already",
-        "finished", "no party"
+        "finished", "no party", "crowded"
     };
     return answer < sizeof names / sizeof names[0] ? names[answer] : "no answer";
 }
@@ -160,16 +166,27 @@ static inline void cqs_drop(void *at) {
 }
 
 /* In each `new`: passes, that may be made in all, 1 to 32; limit, how many waits may be drawn in
- * all, 1 to 1048576; waits, how many one pass may have at once, up to 1048576. The first pass is
- * there, under the number 0. */
+ * all, 1 to 68719476736, of a latch to 4294967232, which costs nothing; waits, how many one pass may
+ * have at once, up to 1048576. The first pass is there, under the number 0.
+ *
+ * Slots. The cells of waits stand 32 to a slot, in the order of their numbers, and a slot comes free
+ * when all 32 waits in it have ended. `new` makes `waits * passes / 32 + 2 * passes + 2` slots, of a
+ * pool `size / 32 + 1` more, of a barrier `parties` more, but 65535 at most. With fewer than that all
+ * passes may have all their waits at once, where these were drawn one after the other. A wait that
+ * goes on and on keeps a whole slot, also where the other 31 have ended. So where many wait, far from
+ * one another, with many in between that were given up, a call may find no slot, and is refused as
+ * CQS_CROWDED. Nothing is lost: the pass has what it had, the permit, the mutex, the element or the
+ * party that it was to give too. Try again after some of the waits have ended. Who wants to be
+ * refused less often makes more room, by `waits`. */
 
 /* ---- The semaphore ----
  *
- *     acquire   CQS_NOW, or CQS_LATER with a wait; CQS_WORN even if a permit is free
+ *     acquire   CQS_NOW, or CQS_LATER with a wait; CQS_WORN or CQS_CROWDED even if
+ *               a permit is free
  *     try       CQS_GOT, CQS_NONE_FREE, or CQS_CONTENDED
  *     poll      CQS_GRANTED, or CQS_PENDING
  *     cancel    CQS_CANCELLED, CQS_CANCELLED_OWING, or CQS_TOO_LATE: the pass has the permit
- *     release   CQS_FREED, CQS_SENT, CQS_LEFT, CQS_VOID, or CQS_UNDER
+ *     release   CQS_FREED, CQS_SENT, CQS_LEFT, CQS_VOID, or CQS_UNDER; CQS_CROWDED
  *     finish    as release, but CQS_FREED
  *     state     CQS_STATE
  *     sole      CQS_SOLE
@@ -230,11 +247,12 @@ static inline struct cqs_answer cqs_semaphore_meet(const struct cqs_semaphore *s
  * before its unlock, the next one that has the mutex sees. (The steps of the library are
  * sequentially consistent. This is tested, and no clause says it.)
  *
- *     lock      CQS_NOW, or CQS_LATER with a wait; CQS_WORN even if it is free
+ *     lock      CQS_NOW, or CQS_LATER with a wait; CQS_WORN or CQS_CROWDED even if
+ *               it is free
  *     try       CQS_GOT, CQS_NONE_FREE, or CQS_CONTENDED
  *     poll      CQS_GRANTED, or CQS_PENDING
  *     cancel    CQS_CANCELLED, CQS_CANCELLED_OWING, or CQS_TOO_LATE: the pass has the mutex
- *     unlock    CQS_FREED, CQS_SENT, CQS_LEFT, CQS_VOID, or CQS_UNDER; CQS_NO_PERMIT
+ *     unlock    CQS_FREED, CQS_SENT, CQS_LEFT, CQS_VOID, or CQS_UNDER; CQS_CROWDED; CQS_NO_PERMIT
  *     finish    as unlock, but CQS_FREED
  *     state     CQS_STATE: 1 where it is free, and else less those who wait with it not on its way
  *     sole      CQS_SOLE
@@ -291,10 +309,11 @@ static inline struct cqs_answer cqs_mutex_meet(const struct cqs_mutex *m, uint32
  * It has elements 0, 1, 2 and so on. A pass that takes one has it until it puts it back, and nobody
  * else has it: so it may use what its user keeps under that number, a connection, say.
  *
- *     take      CQS_TOOK, or CQS_LATER with a wait; CQS_WORN even if an element is free
+ *     take      CQS_TOOK, or CQS_LATER with a wait; CQS_WORN or CQS_CROWDED even if
+ *               an element is free
  *     poll      CQS_TOOK, or CQS_PENDING
  *     cancel    CQS_CANCELLED, CQS_CANCELLED_OWING, or CQS_TOO_LATE: the pass has an element
- *     put       CQS_SENT, CQS_LEFT, or CQS_UNDER; CQS_NO_ELEMENT
+ *     put       CQS_SENT, CQS_LEFT, or CQS_UNDER; CQS_CROWDED; CQS_NO_ELEMENT
  *     finish    as put
  *     sole      CQS_SOLE
  *     split     CQS_MADE
@@ -348,10 +367,10 @@ static inline struct cqs_answer cqs_pool_meet(const struct cqs_pool *p, uint32_t
  * or in the simple mode, where its number stays behind, and the resumption that comes for it ends
  * there.
  *
- *     wait        CQS_PASSED, or CQS_LATER with a wait; CQS_WORN
+ *     wait        CQS_PASSED, or CQS_LATER with a wait; CQS_WORN, or CQS_CROWDED
  *     poll        CQS_THROUGH, or CQS_PENDING
  *     cancel      CQS_CANCELLED, CQS_CANCELLED_OWING, or CQS_TOO_LATE: the latch was opened before
- *     count_down  CQS_COUNTED, CQS_LAST, CQS_LAST_OWING, or CQS_ALREADY
+ *     count_down  CQS_COUNTED, CQS_LAST, CQS_LAST_OWING, or CQS_ALREADY; CQS_CROWDED
  *     finish      CQS_FINISHED, or CQS_UNDER
  *     sole        CQS_SOLE
  *     split       CQS_MADE
@@ -413,7 +432,7 @@ static inline struct cqs_answer cqs_latch_meet(const struct cqs_latch *l, uint32
  * waiting before the last has come is its pass's again.
  *
  *     arrive    CQS_LAST: all have arrived; CQS_LAST_OWING, or CQS_LATER with a wait; CQS_WORN;
- *               CQS_NO_PARTY
+ *               CQS_CROWDED; CQS_NO_PARTY
  *     poll      CQS_THROUGH, or CQS_PENDING
  *     cancel    CQS_CANCELLED: the party is to arrive again; CQS_TOO_LATE: all have arrived; or
  *               CQS_CONTENDED

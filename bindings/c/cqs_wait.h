@@ -25,10 +25,12 @@
  *     CQS_GRANTED, CQS_TOOK, CQS_THROUGH         after a wait, as a poll
  *     CQS_CANCELLED                              the deadline has come; the wait is over, and
  *                                                nothing came of it
- *     a refusal, or CQS_WORN                     as the call of cqs.h
+ *     a refusal, CQS_WORN or CQS_CROWDED         as the call of cqs.h, at once: it doesn't sleep
+ *                                                until there is a slot
  *
  * A call that gives back answers as that of cqs.h, and has finished what it owed: after a
- * CQS_UNDER, a CQS_LAST_OWING or a CQS_CONTENDED the answer is that of the last finish.
+ * CQS_UNDER, a CQS_LAST_OWING or a CQS_CONTENDED the answer is that of the last finish. After a
+ * CQS_CROWDED the pass has what it was to give, and the call is to be made again.
  *
  * Deadlines are moments of CLOCK_MONOTONIC: cqs_deadline gives the moment after so many
  * nanoseconds. A null deadline is none.
@@ -39,6 +41,7 @@
 #define CQS_WAIT_H
 #include "cqs.h"
 #include <pthread.h>
+#include <sched.h>
 #include <time.h>
 #ifdef __cplusplus
 extern "C" {
@@ -139,8 +142,12 @@ static inline void cqs_wake_all(struct cqs_sleepers *z) {
 /* Goes on where an answer says so, and wakes whom it tells of. */
 static inline struct cqs_answer cqs_and_wake(const void *at, struct cqs_sleepers *z, uint32_t pass,
                                              struct cqs_answer a) {
-    while (a.answer == CQS_UNDER || a.answer == CQS_LAST_OWING || a.answer == CQS_CONTENDED)
+    for (int turn = 0;
+         a.answer == CQS_UNDER || a.answer == CQS_LAST_OWING || a.answer == CQS_CONTENDED; turn++) {
+        /* It may want the slot that another call is just about to give up. */
+        if (turn >= 16) sched_yield();
         a = cqs_call(at, CQS_DO_FINISH, pass, 0);
+    }
     if (a.answer == CQS_SENT) cqs_wake_part(&z->parts[(uint64_t)a.number % CQS_PARTS]);
     if (a.answer == CQS_LEFT || a.answer == CQS_LAST || a.answer == CQS_FINISHED) cqs_wake_all(z);
     return a;

@@ -3,7 +3,7 @@
 use crate::errors::{MakeError, TimeoutError, expect_in};
 use crate::ffi::{self, Answer};
 use crate::gate::Gate;
-use crate::primitive::Primitive;
+use crate::primitive::{MOST_LIMIT, Primitive};
 use crate::sleeper::deadline_after;
 use crate::wakers::lock;
 use std::fmt;
@@ -88,11 +88,8 @@ struct Round {
     arrivals: u64,
 }
 
-/// So many waits may be drawn of one barrier of the library, where 32 are those that must be.
-const LIMIT: u64 = 1024;
-
 fn primitive(parties: u32) -> Result<Primitive, MakeError> {
-    Primitive::new(ffi::KIND_BARRIER, parties, 1, LIMIT, parties)
+    Primitive::new(ffi::KIND_BARRIER, parties, 1, MOST_LIMIT, parties)
 }
 
 impl Round {
@@ -105,7 +102,7 @@ impl Round {
     /// A party arrives, and says whether it is the last one.
     fn enter(&mut self) -> bool {
         let mut answer = self.primitive.call(ffi::DO_ENTER, 0, 0);
-        if answer.answer == ffi::WORN {
+        if let ffi::WORN | ffi::CROWDED = answer.answer {
             self.renew();
             answer = self.primitive.call(ffi::DO_ENTER, 0, 0);
         }
@@ -124,8 +121,8 @@ impl Round {
         }
     }
 
-    /// Parties have withdrawn so often that no wait is left to draw. So those who are here arrive
-    /// at another barrier of the library.
+    /// Parties have withdrawn so often that those who are here stand in many slots, and none is left,
+    /// or no wait is left to draw. So they arrive at another barrier of the library.
     fn renew(&mut self) {
         self.primitive = primitive(self.parties).unwrap_or_else(no_memory);
         for wait in &mut self.waits {
@@ -229,7 +226,8 @@ impl Barrier {
     }
 
     /// Arrives, and waits until all have arrived, or until the time is over; then the party has not
-    /// arrived. The thread sleeps. It is never told that the barrier is worn.
+    /// arrived. The thread sleeps. It is never told that the barrier is worn or
+    /// crowded.
     ///
     /// # Panics
     ///

@@ -69,26 +69,33 @@ pub(crate) fn expect_in(
     Err(MakeError::BadConfig(BadNumber { name, given, least, most }))
 }
 
-/// As many waits were drawn as the primitive was made for (`limit` of its config), and the caller
-/// would have to wait.
+/// Why a caller who would have to wait can't.
 ///
-/// What is free can still be had, and who waits is still served. A worn primitive is to be replaced
-/// by a new one.
+/// What is free can still be had, and who waits is still served.
 ///
 /// ```
-/// use cqs::{Mutex, MutexConfig, TimeoutError, Worn};
+/// use cqs::{Mutex, MutexConfig, TimeoutError, WaitError};
 /// use std::time::Duration;
 ///
-/// let mutex = Mutex::with_config(0, MutexConfig { limit: 1 }).unwrap();
+/// let config = MutexConfig { limit: 1, ..MutexConfig::default() };
+/// let mutex = Mutex::with_config(0, config).unwrap();
 /// let guard = mutex.lock_blocking().unwrap();
 /// let first_wait = mutex.lock_timeout(Duration::from_millis(1));
 /// assert_eq!(first_wait.unwrap_err(), TimeoutError::TimedOut);
-/// assert_eq!(mutex.lock_blocking().unwrap_err(), Worn);
+/// assert_eq!(mutex.lock_blocking().unwrap_err(), WaitError::Worn);
 /// drop(guard);
 /// assert!(mutex.lock_blocking().is_ok());
 /// ```
 #[derive(Clone, Copy, Debug, PartialEq, Eq)]
-pub struct Worn;
+pub enum WaitError {
+    /// As many waits were drawn as the primitive was made for (`limit` of its config). A worn
+    /// primitive is to be replaced by a new one.
+    Worn,
+    /// There is no room for one more who waits: as many wait as the primitive was made for
+    /// (`waiters` of its config), or fewer, who came far apart, with many in between who left. A
+    /// later try may succeed, once some have stopped waiting.
+    Crowded,
+}
 
 /// Nothing was free.
 ///
@@ -113,7 +120,7 @@ pub struct NoneFree;
 /// match Latch::new(1).wait_timeout(Duration::from_millis(1)) {
 ///     Ok(()) => unreachable!("nobody counts it down"),
 ///     Err(TimeoutError::TimedOut) => {}
-///     Err(TimeoutError::Worn) => unreachable!("it is new"),
+///     Err(TimeoutError::Worn | TimeoutError::Crowded) => unreachable!("it is new"),
 /// }
 /// ```
 #[derive(Clone, Copy, Debug, PartialEq, Eq)]
@@ -122,11 +129,16 @@ pub enum TimeoutError {
     TimedOut,
     /// As many waits were drawn as the primitive was made for.
     Worn,
+    /// There is no room for one more who waits: [`WaitError::Crowded`].
+    Crowded,
 }
 
-impl From<Worn> for TimeoutError {
-    fn from(_: Worn) -> TimeoutError {
-        TimeoutError::Worn
+impl From<WaitError> for TimeoutError {
+    fn from(error: WaitError) -> TimeoutError {
+        match error {
+            WaitError::Worn => TimeoutError::Worn,
+            WaitError::Crowded => TimeoutError::Crowded,
+        }
     }
 }
 
@@ -146,9 +158,12 @@ impl fmt::Display for BadNumber {
     }
 }
 
-impl fmt::Display for Worn {
+impl fmt::Display for WaitError {
     fn fmt(&self, f: &mut fmt::Formatter<'_>) -> fmt::Result {
-        f.write_str("as many waits were drawn as the primitive was made for")
+        f.write_str(match self {
+            WaitError::Worn => "as many waits were drawn as the primitive was made for",
+            WaitError::Crowded => "there is no room for one more who waits",
+        })
     }
 }
 
@@ -162,7 +177,8 @@ impl fmt::Display for TimeoutError {
     fn fmt(&self, f: &mut fmt::Formatter<'_>) -> fmt::Result {
         match self {
             TimeoutError::TimedOut => f.write_str("the time is over"),
-            TimeoutError::Worn => Worn.fmt(f),
+            TimeoutError::Worn => WaitError::Worn.fmt(f),
+            TimeoutError::Crowded => WaitError::Crowded.fmt(f),
         }
     }
 }
@@ -177,6 +193,6 @@ impl Error for MakeError {
 }
 
 impl Error for BadNumber {}
-impl Error for Worn {}
+impl Error for WaitError {}
 impl Error for NoneFree {}
 impl Error for TimeoutError {}

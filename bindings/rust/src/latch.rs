@@ -1,11 +1,12 @@
 //! A count-down latch.
 
-use crate::errors::{MakeError, TimeoutError, Worn, expect_in};
+use crate::errors::{MakeError, TimeoutError, WaitError, expect_in};
 use crate::ffi::{self, Answer};
 use crate::gate::Gate;
+use crate::line::without_deadline;
+use crate::passes::Turns;
 use crate::passes::{Passes, Waiters};
-use crate::primitive::{MOST_PASSES, MOST_WAITS, Primitive};
-use crate::semaphore::room_of;
+use crate::primitive::{MOST_LATCH_LIMIT, MOST_PASSES, Primitive, WAITERS, room_of};
 use crate::sleeper::deadline_after;
 use std::fmt;
 use std::future::Future;
@@ -25,15 +26,17 @@ use std::time::{Duration, Instant};
 pub struct LatchConfig {
     /// How often it is to be counted down, up to 1,048,576. One of 0 is open.
     pub count: usize,
-    /// How many waits may be drawn in all, from 1 to 1,048,576: one by each caller who finds it
-    /// closed. Each takes 8 bytes from the start.
+    /// How many waits may be drawn in all, from 1 to 4,294,967,232: one by each caller who finds it
+    /// closed. It costs nothing.
     pub limit: u64,
+    /// For how many who wait at once there is room, from 1 to 1,048,576. Each takes 20 bytes.
+    pub waiters: usize,
 }
 
 impl Default for LatchConfig {
-    /// One count, and as many waits as there may be.
+    /// One count, as many waits as may be drawn, and room for 4,096 who wait at once.
     fn default() -> LatchConfig {
-        LatchConfig { count: 1, limit: MOST_WAITS }
+        LatchConfig { count: 1, limit: MOST_LATCH_LIMIT, waiters: WAITERS }
     }
 }
 
@@ -77,9 +80,9 @@ pub enum CountDown {
 /// ```
 ///
 /// ```
-/// use cqs::{Latch, Worn};
+/// use cqs::{Latch, WaitError};
 ///
-/// async fn begin(start: &Latch) -> Result<(), Worn> {
+/// async fn begin(start: &Latch) -> Result<(), WaitError> {
 ///     start.wait().await
 /// }
 /// # use std::future::Future;
@@ -99,7 +102,7 @@ struct Ticket {
 }
 
 impl Latch {
-    /// A latch that is to be counted down so often, with as many waits as there may be.
+    /// A latch that is to be counted down so often, with room for 4,096 who wait at once.
     ///
     /// # Panics
     ///
@@ -113,9 +116,9 @@ impl Latch {
 
     /// A latch.
     pub fn with_config(config: LatchConfig) -> Result<Latch, MakeError> {
-        let LatchConfig { count, limit } = config;
+        let LatchConfig { count, limit, waiters } = config;
         expect_in(0..=1_048_576, "count", count as u64)?;
-        let (kind, room) = (ffi::KIND_LATCH, room_of(limit));
+        let (kind, room) = (ffi::KIND_LATCH, room_of(waiters)?);
         let primitive = Primitive::new(kind, count as u32, MOST_PASSES, limit, room)?;
         let latch = Latch { passes: Passes::new(primitive, Gate::default()) };
         if count == 0 {
@@ -139,15 +142,21 @@ impl Latch {
     /// assert_eq!(latch.count_down(), CountDown::Already);
     /// ```
     pub fn count_down(&self) -> CountDown {
-        let (_, answer) = self.passes.call_any(ffi::DO_LEAVE, self.passes.home());
-        match answer.answer {
-            ffi::COUNTED => CountDown::Left(answer.number as usize),
-            ffi::LAST | ffi::LAST_OWING => {
-                self.gate().open();
-                CountDown::Last
+        let mut turns = Turns::new();
+        loop {
+            let (_, answer) = self.passes.call_any(ffi::DO_LEAVE, self.passes.home());
+            match answer.answer {
+                ffi::COUNTED => return CountDown::Left(answer.number as usize),
+                ffi::LAST | ffi::LAST_OWING => {
+                    self.gate().open();
+                    return CountDown::Last;
+                }
+                ffi::ALREADY => return CountDown::Already,
+                // Every pass was seen without a spare slot. One that was used to wait at this latch
+                // keeps one, so another call has taken it just now.
+                ffi::CROWDED => turns.wait(),
+                other => unreachable!("a count down was answered {other}"),
             }
-            ffi::ALREADY => CountDown::Already,
-            other => unreachable!("a count down was answered {other}"),
         }
     }
 
@@ -158,13 +167,13 @@ impl Latch {
     }
 
     /// Waits until it is open. Dropped before, the future leaves the line.
-    pub async fn wait(&self) -> Result<(), Worn> {
+    pub async fn wait(&self) -> Result<(), WaitError> {
         Waiting { latch: self, stage: Stage::New }.await
     }
 
     /// Waits until it is open. The thread sleeps.
-    pub fn wait_blocking(&self) -> Result<(), Worn> {
-        self.wait_until(None).map_err(|_| Worn)
+    pub fn wait_blocking(&self) -> Result<(), WaitError> {
+        self.wait_until(None).map_err(without_deadline)
     }
 
     /// Waits until it is open, or until the time is over. The thread sleeps.
@@ -191,7 +200,7 @@ impl Latch {
     }
 
     /// Passes, or comes to the line.
-    fn come(&self) -> Result<Option<Ticket>, Worn> {
+    fn come(&self) -> Result<Option<Ticket>, WaitError> {
         if self.is_open() {
             return Ok(None);
         }
@@ -199,7 +208,8 @@ impl Latch {
         match answer.answer {
             ffi::PASSED => Ok(None),
             ffi::LATER => Ok(Some(Ticket { pass, number: answer.number as u64 })),
-            ffi::WORN => Err(Worn),
+            ffi::WORN => Err(WaitError::Worn),
+            ffi::CROWDED => Err(WaitError::Crowded),
             other => unreachable!("a wait was answered {other}"),
         }
     }
@@ -244,7 +254,7 @@ enum Stage {
 }
 
 impl Future for Waiting<'_> {
-    type Output = Result<(), Worn>;
+    type Output = Result<(), WaitError>;
 
     fn poll(mut self: Pin<&mut Self>, cx: &mut Context<'_>) -> Poll<Self::Output> {
         let latch = self.latch;

@@ -47,12 +47,19 @@
 //! - **A panic holds nothing**: it drops what it had. Nothing is poisoned.
 //! - **Forgotten is lost**, by [`mem::forget`](std::mem::forget): a permit is never given back, and
 //!   a future that waits takes what comes to it.
-//! - **`limit`**: a primitive is made for a number of waits in all, at most and by default 1,048,576.
-//!   Only who has to wait draws one (of a pool the first taker of each value, too). Then it is
-//!   [`Worn`]: what is free can be had, but nobody waits any more. A barrier renews itself.
-//! - **Memory**: 8 bytes for each wait of `limit`, from the start, and some 25 KiB besides; so by
-//!   default 10 MB, which take some ten milliseconds to make. A config with a smaller `limit` costs
-//!   less. A waiter takes some 100 bytes while it waits.
+//! - **`waiters`**: there is room for so many who wait at once, by default 4,096. Who comes to a full
+//!   line is refused, as [`Crowded`](WaitError::Crowded); a later try may succeed. Waits stand 32 to
+//!   a slot, and one who waits on keeps a whole slot; so where nearly all others have left, fewer may
+//!   be refused. A barrier has room for all its parties.
+//! - **`limit`**: a primitive is made for a number of waits in all, at most and by default
+//!   68,719,476,736, of a latch 4,294,967,232. Only who has to wait draws one (of a pool the first
+//!   taker of each value, too). Then it is [`Worn`](WaitError::Worn): what is free can be had, but
+//!   nobody waits any more. A barrier renews itself.
+//! - **Memory**: by the `waiters`, and not by the `limit`. Each takes 8 bytes of room and 12 in
+//!   slots, from the start, and the rest some 40 KB; so by default some 120 KB. A waiter takes some
+//!   100 bytes more while it waits.
+//! - **What is given back is never refused.** Where there is no slot to pass it on, it is kept, and
+//!   passed on as soon as somebody has left the line.
 //! - **Wakes**: who gives something to a waiter wakes that one, and nobody else. A future is polled
 //!   once when it comes and once when it is served; it never asks to be polled again by itself. Who
 //!   waits looks at the wait when it was served, and once before at most.
@@ -84,7 +91,7 @@ mod spares;
 mod wakers;
 
 pub use barrier::{Barrier, BarrierConfig, BarrierWait};
-pub use errors::{BadNumber, MakeError, NoneFree, TimeoutError, Worn};
+pub use errors::{BadNumber, MakeError, NoneFree, TimeoutError, WaitError};
 pub use latch::{CountDown, Latch, LatchConfig};
 pub use mutex::{Lock, Mutex, MutexConfig, MutexGuard, OwnedMutexGuard};
 pub use pool::{Item, OwnedItem, Pool, PoolConfig, Take};

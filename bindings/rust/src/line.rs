@@ -20,7 +20,7 @@
 //!
 //! **Nobody overtakes the line.** What is at hand is taken only by who found that nobody waited.
 
-use crate::errors::{TimeoutError, Worn};
+use crate::errors::{TimeoutError, WaitError};
 use crate::ffi::{self, Answer};
 use crate::passes::{Passes, Turns, Waiters};
 use crate::primitive::Primitive;
@@ -57,7 +57,7 @@ pub(crate) struct Ticket {
 pub(crate) enum Taken {
     Now(Held),
     Later(Ticket),
-    Worn,
+    Refused(WaitError),
 }
 
 /// Permits or elements, and the line of those who wait for them.
@@ -100,7 +100,7 @@ impl<S: Spares> Line<S> {
         }
         let home = self.passes.home();
         if self.is_worn.load(Ordering::Relaxed) {
-            return self.try_take().map_or(Taken::Worn, Taken::Now);
+            return self.try_take().map_or(Taken::Refused(WaitError::Worn), Taken::Now);
         }
         let before = match self.announce(home) {
             Ok(before) => before,
@@ -117,11 +117,18 @@ impl<S: Spares> Line<S> {
             ffi::LATER => Taken::Later(Ticket { pass, number: answer.number as u64, lefts }),
             ffi::WORN => {
                 self.is_worn.store(true, Ordering::Relaxed);
-                self.go();
-                self.try_take().map_or(Taken::Worn, Taken::Now)
+                self.turn_away(WaitError::Worn)
             }
+            ffi::CROWDED => self.turn_away(WaitError::Crowded),
             other => unreachable!("a caller who came was answered {other}"),
         }
+    }
+
+    /// Who can't wait takes what is free, all the same.
+    #[cold]
+    fn turn_away(&self, why: WaitError) -> Taken {
+        self.go();
+        self.try_take().map_or(Taken::Refused(why), Taken::Now)
     }
 
     /// One more waits; says how many did before. The first one takes what some pass has at hand, and
@@ -214,6 +221,7 @@ impl<S: Spares> Line<S> {
                 self.is_worn.store(true, Ordering::Relaxed);
                 None
             }
+            ffi::CROWDED => None,
             other => unreachable!("a caller who came was answered {other}"),
         };
         self.go();
@@ -257,7 +265,7 @@ impl<S: Spares> Line<S> {
     /// Gives it to the library, and wakes whom it serves.
     #[inline(never)]
     fn leave(&self, held: Held) {
-        self.passes.call(ffi::DO_LEAVE, held.pass, held.element.into());
+        self.passes.leave(held.pass, held.element);
     }
 
     /// A waiter registers, and looks where it may have been served before.
@@ -334,10 +342,10 @@ impl<S: Spares> Line<S> {
 
     /// Takes, and sleeps in line until something comes.
     #[inline]
-    pub(crate) fn take_blocking(&self) -> Result<Held, Worn> {
+    pub(crate) fn take_blocking(&self) -> Result<Held, WaitError> {
         match self.take_at_hand() {
             Some(held) => Ok(held),
-            None => self.take_until(None).map_err(|_| Worn),
+            None => self.take_until(None).map_err(without_deadline),
         }
     }
 
@@ -346,7 +354,7 @@ impl<S: Spares> Line<S> {
         let ticket = match self.take() {
             Taken::Now(held) => return Ok(held),
             Taken::Later(ticket) => ticket,
-            Taken::Worn => return Err(TimeoutError::Worn),
+            Taken::Refused(why) => return Err(why.into()),
         };
         let sleeper = Sleeper::new();
         if let Some(held) = self.join(ticket, sleeper.waker()) {
@@ -368,6 +376,15 @@ impl<S: Spares> Line<S> {
         let at_hand: u32 = (0..self.passes.count()).map(|pass| self.spares.count(pass)).sum();
         let (_, answer) = self.passes.call_any(ffi::DO_STATE, self.passes.home());
         at_hand as usize + usize::try_from(answer.number).unwrap_or(0)
+    }
+}
+
+/// Why a call with no deadline got nothing.
+pub(crate) fn without_deadline(error: TimeoutError) -> WaitError {
+    match error {
+        TimeoutError::Worn => WaitError::Worn,
+        TimeoutError::Crowded => WaitError::Crowded,
+        TimeoutError::TimedOut => unreachable!("there is no deadline"),
     }
 }
 
@@ -439,7 +456,7 @@ enum Stage {
 }
 
 impl<S: Spares> Future for Coming<'_, S> {
-    type Output = Result<Held, Worn>;
+    type Output = Result<Held, WaitError>;
 
     #[inline]
     fn poll(mut self: Pin<&mut Self>, cx: &mut Context<'_>) -> Poll<Self::Output> {
@@ -455,7 +472,7 @@ impl<S: Spares> Future for Coming<'_, S> {
 
 impl<S: Spares> Coming<'_, S> {
     #[inline(never)]
-    fn poll_line(&mut self, cx: &mut Context<'_>) -> Poll<Result<Held, Worn>> {
+    fn poll_line(&mut self, cx: &mut Context<'_>) -> Poll<Result<Held, WaitError>> {
         let line = self.line;
         let held = match self.stage {
             Stage::New => match line.take() {
@@ -467,9 +484,9 @@ impl<S: Spares> Coming<'_, S> {
                         return Poll::Pending;
                     }
                 },
-                Taken::Worn => {
+                Taken::Refused(why) => {
                     self.stage = Stage::Over;
-                    return Poll::Ready(Err(Worn));
+                    return Poll::Ready(Err(why));
                 }
             },
             Stage::InLine(ticket) => match line.passes.waiters.check(ticket.number, cx.waker()) {

@@ -1,8 +1,8 @@
 //! A mutex around a value: a semaphore of one permit, and the value, which its guard lends.
 
-use crate::errors::{MakeError, NoneFree, TimeoutError, Worn};
+use crate::errors::{MakeError, NoneFree, TimeoutError, WaitError};
 use crate::line::{Coming, Held, Line};
-use crate::primitive::MOST_WAITS;
+use crate::primitive::{MOST_LIMIT, WAITERS};
 use crate::semaphore::permits;
 use crate::spares::Permits;
 use std::cell::UnsafeCell;
@@ -20,20 +20,23 @@ use std::time::Duration;
 /// ```
 /// use cqs::{Mutex, MutexConfig};
 ///
-/// let mutex = Mutex::with_config("a value", MutexConfig { limit: 1000 }).unwrap();
+/// let config = MutexConfig { waiters: 100, ..MutexConfig::default() };
+/// let mutex = Mutex::with_config("a value", config).unwrap();
 /// assert_eq!(*mutex.lock_blocking().unwrap(), "a value");
 /// ```
 #[derive(Clone, Copy, Debug, PartialEq, Eq)]
 pub struct MutexConfig {
-    /// How many waits may be drawn in all, from 1 to 1,048,576: one by each caller who finds it
-    /// locked. Each takes 8 bytes from the start.
+    /// How many waits may be drawn in all, from 1 to 68,719,476,736: one by each caller who finds it
+    /// locked. It costs nothing.
     pub limit: u64,
+    /// For how many who wait at once there is room, from 1 to 1,048,576. Each takes 20 bytes.
+    pub waiters: usize,
 }
 
 impl Default for MutexConfig {
-    /// As many waits as there may be.
+    /// As many waits as may be drawn, and room for 4,096 who wait at once.
     fn default() -> MutexConfig {
-        MutexConfig { limit: MOST_WAITS }
+        MutexConfig { limit: MOST_LIMIT, waiters: WAITERS }
     }
 }
 
@@ -44,8 +47,8 @@ impl Default for MutexConfig {
 /// **Nothing is poisoned.** A panic drops the guard, and so unlocks; what the panic left in the
 /// value, the next one finds, as with the mutexes of tokio and of parking_lot.
 ///
-/// It takes the room for its waits, by default 10 MB: so it is made for what is shared by many, and
-/// not for each of a thousand records. A [`MutexConfig`] with a smaller `limit` costs less.
+/// It takes room for those who wait, by default some hundred KB: so it is made for what is shared by
+/// many, and not for each of a million records. A [`MutexConfig`] with fewer `waiters` costs less.
 ///
 /// # Examples
 ///
@@ -63,9 +66,9 @@ impl Default for MutexConfig {
 /// ```
 ///
 /// ```
-/// use cqs::{Mutex, Worn};
+/// use cqs::{Mutex, WaitError};
 ///
-/// async fn add(sum: &Mutex<u64>) -> Result<(), Worn> {
+/// async fn add(sum: &Mutex<u64>) -> Result<(), WaitError> {
 ///     *sum.lock().await? += 1;
 ///     Ok(())
 /// }
@@ -86,7 +89,7 @@ unsafe impl<T: ?Sized + Send> Sync for Mutex<T> {}
 // `Send` for `T: Send` comes of its fields.
 
 impl<T> Mutex<T> {
-    /// A mutex that is free, with as many waits as there may be.
+    /// A mutex that is free, with room for 4,096 who wait at once.
     ///
     /// # Panics
     ///
@@ -100,8 +103,8 @@ impl<T> Mutex<T> {
 
     /// A mutex that is free. Where none can be made, the value is dropped.
     pub fn with_config(value: T, config: MutexConfig) -> Result<Mutex<T>, MakeError> {
-        let MutexConfig { limit } = config;
-        Ok(Mutex { line: permits(1, limit)?, value: UnsafeCell::new(value) })
+        let MutexConfig { limit, waiters } = config;
+        Ok(Mutex { line: permits(1, limit, waiters)?, value: UnsafeCell::new(value) })
     }
 
     /// The value.
@@ -127,7 +130,7 @@ impl<T: ?Sized> Mutex<T> {
     }
 
     /// The mutex. The thread sleeps until it comes.
-    pub fn lock_blocking(&self) -> Result<MutexGuard<'_, T>, Worn> {
+    pub fn lock_blocking(&self) -> Result<MutexGuard<'_, T>, WaitError> {
         self.line.take_blocking().map(|held| self.guard(held))
     }
 
@@ -160,7 +163,7 @@ impl<T: ?Sized> Mutex<T> {
     }
 
     /// As [`Mutex::lock`], with a guard that borrows nothing.
-    pub async fn lock_owned(self: Arc<Self>) -> Result<OwnedMutexGuard<T>, Worn> {
+    pub async fn lock_owned(self: Arc<Self>) -> Result<OwnedMutexGuard<T>, WaitError> {
         let held = self.line.coming().await?;
         Ok(self.owned_guard(held))
     }
@@ -177,7 +180,7 @@ impl<T: ?Sized> Mutex<T> {
     /// std::thread::spawn(move || drop(guard)).join().unwrap();
     /// assert_eq!(*mutex.try_lock().unwrap(), [1, 2]);
     /// ```
-    pub fn lock_owned_blocking(self: Arc<Self>) -> Result<OwnedMutexGuard<T>, Worn> {
+    pub fn lock_owned_blocking(self: Arc<Self>) -> Result<OwnedMutexGuard<T>, WaitError> {
         let held = self.line.take_blocking()?;
         Ok(self.owned_guard(held))
     }
@@ -230,7 +233,7 @@ impl<T: ?Sized + fmt::Debug> fmt::Debug for Mutex<T> {
 /// The future of [`Mutex::lock`]. Dropped, it leaves the line.
 ///
 /// ```
-/// # async fn add(mutex: &cqs::Mutex<u64>) -> Result<(), cqs::Worn> {
+/// # async fn add(mutex: &cqs::Mutex<u64>) -> Result<(), cqs::WaitError> {
 /// let lock: cqs::Lock<u64> = mutex.lock();
 /// *lock.await? += 1;
 /// # Ok(())
@@ -243,7 +246,7 @@ pub struct Lock<'a, T: ?Sized> {
 }
 
 impl<'a, T: ?Sized> Future for Lock<'a, T> {
-    type Output = Result<MutexGuard<'a, T>, Worn>;
+    type Output = Result<MutexGuard<'a, T>, WaitError>;
 
     #[inline]
     fn poll(mut self: Pin<&mut Self>, cx: &mut Context<'_>) -> Poll<Self::Output> {

@@ -1,10 +1,9 @@
 //! A pool of values: who takes one has it until it is put back.
 
-use crate::errors::{MakeError, NoneFree, TimeoutError, Worn, expect_in};
+use crate::errors::{MakeError, NoneFree, TimeoutError, WaitError, expect_in};
 use crate::ffi;
 use crate::line::{Coming, Held, Line};
-use crate::primitive::{MOST_PASSES, MOST_WAITS, Primitive};
-use crate::semaphore::room_of;
+use crate::primitive::{MOST_LIMIT, MOST_PASSES, Primitive, WAITERS, room_of};
 use crate::spares::Elements;
 use std::cell::UnsafeCell;
 use std::fmt;
@@ -21,20 +20,23 @@ use std::time::Duration;
 /// ```
 /// use cqs::{Pool, PoolConfig};
 ///
-/// let pool = Pool::with_config(["a", "b"], PoolConfig { limit: 1000 }).unwrap();
+/// let config = PoolConfig { waiters: 100, ..PoolConfig::default() };
+/// let pool = Pool::with_config(["a", "b"], config).unwrap();
 /// assert_eq!(pool.size(), 2);
 /// ```
 #[derive(Clone, Copy, Debug, PartialEq, Eq)]
 pub struct PoolConfig {
-    /// How many waits may be drawn in all, from 1 to 1,048,576: one by each caller who finds no
-    /// value at hand, and one by the first who takes each value. Each takes 8 bytes from the start.
+    /// How many waits may be drawn in all, from 1 to 68,719,476,736: one by each caller who finds no
+    /// value at hand, and one by the first who takes each value. It costs nothing.
     pub limit: u64,
+    /// For how many who wait at once there is room, from 1 to 1,048,576. Each takes 20 bytes.
+    pub waiters: usize,
 }
 
 impl Default for PoolConfig {
-    /// As many waits as there may be.
+    /// As many waits as may be drawn, and room for 4,096 who wait at once.
     fn default() -> PoolConfig {
-        PoolConfig { limit: MOST_WAITS }
+        PoolConfig { limit: MOST_LIMIT, waiters: WAITERS }
     }
 }
 
@@ -64,9 +66,9 @@ impl Default for PoolConfig {
 /// ```
 ///
 /// ```
-/// use cqs::{Pool, Worn};
+/// use cqs::{Pool, WaitError};
 ///
-/// async fn ask(connections: &Pool<u32>) -> Result<(), Worn> {
+/// async fn ask(connections: &Pool<u32>) -> Result<(), WaitError> {
 ///     let mut connection = connections.take().await?;
 ///     *connection += 1;
 ///     Ok(())
@@ -88,7 +90,7 @@ pub struct Pool<T> {
 unsafe impl<T: Send> Sync for Pool<T> {}
 
 impl<T> Pool<T> {
-    /// A pool of these values, all of them free, with as many waits as there may be.
+    /// A pool of these values, all of them free, with room for 4,096 who wait at once.
     ///
     /// # Panics
     ///
@@ -106,11 +108,11 @@ impl<T> Pool<T> {
         values: impl IntoIterator<Item = T>,
         config: PoolConfig,
     ) -> Result<Pool<T>, MakeError> {
-        let PoolConfig { limit } = config;
+        let PoolConfig { limit, waiters } = config;
         let values: Box<[UnsafeCell<T>]> = values.into_iter().map(UnsafeCell::new).collect();
         expect_in(1..=4096, "values", values.len() as u64)?;
         let size = values.len() as u32;
-        let (kind, room) = (ffi::KIND_POOL, room_of(limit));
+        let (kind, room) = (ffi::KIND_POOL, room_of(waiters)?);
         let primitive = Primitive::new(kind, size, MOST_PASSES, limit, room)?;
         let line = Line::new(primitive, Elements::new(values.len()), size);
         Ok(Pool { line, values })
@@ -131,7 +133,7 @@ impl<T> Pool<T> {
     }
 
     /// A value. The thread sleeps until one comes.
-    pub fn take_blocking(&self) -> Result<Item<'_, T>, Worn> {
+    pub fn take_blocking(&self) -> Result<Item<'_, T>, WaitError> {
         self.line.take_blocking().map(|held| self.item(held))
     }
 
@@ -154,13 +156,13 @@ impl<T> Pool<T> {
     }
 
     /// As [`Pool::take`], with an item that borrows nothing.
-    pub async fn take_owned(self: Arc<Self>) -> Result<OwnedItem<T>, Worn> {
+    pub async fn take_owned(self: Arc<Self>) -> Result<OwnedItem<T>, WaitError> {
         let held = self.line.coming().await?;
         Ok(self.owned_item(held))
     }
 
     /// As [`Pool::take_blocking`], with an item that borrows nothing.
-    pub fn take_owned_blocking(self: Arc<Self>) -> Result<OwnedItem<T>, Worn> {
+    pub fn take_owned_blocking(self: Arc<Self>) -> Result<OwnedItem<T>, WaitError> {
         let held = self.line.take_blocking()?;
         Ok(self.owned_item(held))
     }
@@ -207,7 +209,7 @@ impl<T> fmt::Debug for Pool<T> {
 /// The future of [`Pool::take`]. Dropped, it leaves the line.
 ///
 /// ```
-/// # async fn add(pool: &cqs::Pool<u64>) -> Result<(), cqs::Worn> {
+/// # async fn add(pool: &cqs::Pool<u64>) -> Result<(), cqs::WaitError> {
 /// let take: cqs::Take<u64> = pool.take();
 /// *take.await? += 1;
 /// # Ok(())
@@ -220,7 +222,7 @@ pub struct Take<'a, T> {
 }
 
 impl<'a, T> Future for Take<'a, T> {
-    type Output = Result<Item<'a, T>, Worn>;
+    type Output = Result<Item<'a, T>, WaitError>;
 
     #[inline]
     fn poll(mut self: Pin<&mut Self>, cx: &mut Context<'_>) -> Poll<Self::Output> {

@@ -5,7 +5,22 @@ use crate::ffi;
 use std::ptr;
 
 /// So many waits may be drawn in all, at most.
-pub(crate) const MOST_WAITS: u64 = 1_048_576;
+pub(crate) const MOST_LIMIT: u64 = 68_719_476_736;
+
+/// And of a latch, which counts all who ever came.
+pub(crate) const MOST_LATCH_LIMIT: u64 = 4_294_967_232;
+
+/// There may be room for so many who wait at once.
+const MOST_WAITERS: usize = 1_048_576;
+
+/// There is room for so many, where nobody says for how many.
+pub(crate) const WAITERS: usize = 4096;
+
+/// The room for waits in each of all passes: together for so many who wait at once.
+pub(crate) fn room_of(waiters: usize) -> Result<u32, MakeError> {
+    expect_in(1..=MOST_WAITERS as u64, "waiters", waiters as u64)?;
+    Ok(waiters as u32 / MOST_PASSES + 1)
+}
 
 /// So many passes the library makes, at most.
 pub(crate) const MOST_PASSES: u32 = 32;
@@ -32,7 +47,11 @@ impl Primitive {
         limit: u64,
         waits: u32,
     ) -> Result<Primitive, MakeError> {
-        expect_in(1..=MOST_WAITS, "limit", limit)?;
+        let most = match kind {
+            ffi::KIND_LATCH | ffi::KIND_SIMPLE_LATCH => MOST_LATCH_LIMIT,
+            _ => MOST_LIMIT,
+        };
+        expect_in(1..=most, "limit", limit)?;
         let mut raw = ptr::null_mut();
         // SAFETY: `raw` is room for a pointer.
         let answer = unsafe { ffi::cqs_new(kind, size, passes, limit, waits, &mut raw) };

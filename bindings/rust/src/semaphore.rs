@@ -1,9 +1,9 @@
 //! The semaphore.
 
-use crate::errors::{MakeError, NoneFree, TimeoutError, Worn, expect_in};
+use crate::errors::{MakeError, NoneFree, TimeoutError, WaitError, expect_in};
 use crate::ffi;
 use crate::line::{Coming, Held, Line};
-use crate::primitive::{MOST_PASSES, MOST_WAITS, Primitive};
+use crate::primitive::{MOST_LIMIT, MOST_PASSES, Primitive, WAITERS, room_of};
 use crate::spares::Permits;
 use std::fmt;
 use std::future::Future;
@@ -18,32 +18,33 @@ use std::time::Duration;
 /// use cqs::SemaphoreConfig;
 ///
 /// let config = SemaphoreConfig { permits: 3, ..SemaphoreConfig::default() };
-/// assert_eq!(config.limit, 1_048_576);
+/// assert_eq!((config.limit, config.waiters), (68_719_476_736, 4096));
 /// ```
 #[derive(Clone, Copy, Debug, PartialEq, Eq)]
 pub struct SemaphoreConfig {
     /// The permits, from 1 to 1,048,576.
     pub permits: usize,
-    /// How many waits may be drawn in all, from 1 to 1,048,576: one by each caller who finds no
-    /// permit. Each takes 8 bytes from the start.
+    /// How many waits may be drawn in all, from 1 to 68,719,476,736: one by each caller who finds no
+    /// permit. It costs nothing.
     pub limit: u64,
+    /// For how many who wait at once there is room, from 1 to 1,048,576. Each takes 20 bytes.
+    pub waiters: usize,
 }
 
 impl Default for SemaphoreConfig {
-    /// One permit, and as many waits as there may be.
+    /// One permit, as many waits as may be drawn, and room for 4,096 who wait at once.
     fn default() -> SemaphoreConfig {
-        SemaphoreConfig { permits: 1, limit: MOST_WAITS }
+        SemaphoreConfig { permits: 1, limit: MOST_LIMIT, waiters: WAITERS }
     }
 }
 
-/// The room for waits in each pass: together as many as may be drawn.
-pub(crate) fn room_of(limit: u64) -> u32 {
-    (limit / u64::from(MOST_PASSES)) as u32 + 1
-}
-
 /// The line of a semaphore.
-pub(crate) fn permits(permits: u32, limit: u64) -> Result<Line<Permits>, MakeError> {
-    let (kind, room) = (ffi::KIND_SEMAPHORE, room_of(limit));
+pub(crate) fn permits(
+    permits: u32,
+    limit: u64,
+    waiters: usize,
+) -> Result<Line<Permits>, MakeError> {
+    let (kind, room) = (ffi::KIND_SEMAPHORE, room_of(waiters)?);
     let primitive = Primitive::new(kind, permits, MOST_PASSES, limit, room)?;
     Ok(Line::new(primitive, Permits::default(), 0))
 }
@@ -78,9 +79,9 @@ pub(crate) fn permits(permits: u32, limit: u64) -> Result<Line<Permits>, MakeErr
 /// Tasks of any executor:
 ///
 /// ```
-/// use cqs::{Semaphore, Worn};
+/// use cqs::{Semaphore, WaitError};
 ///
-/// async fn fetch(semaphore: &Semaphore) -> Result<(), Worn> {
+/// async fn fetch(semaphore: &Semaphore) -> Result<(), WaitError> {
 ///     let _permit = semaphore.acquire().await?;
 ///     // At most so many tasks are here as there are permits.
 ///     Ok(())
@@ -95,7 +96,7 @@ pub struct Semaphore {
 }
 
 impl Semaphore {
-    /// A semaphore with so many permits, all of them free, and as many waits as there may be.
+    /// A semaphore with so many permits, all of them free, and room for 4,096 who wait at once.
     ///
     /// # Panics
     ///
@@ -110,15 +111,15 @@ impl Semaphore {
 
     /// A semaphore with all its permits free.
     pub fn with_config(config: SemaphoreConfig) -> Result<Semaphore, MakeError> {
-        let SemaphoreConfig { permits: size, limit } = config;
+        let SemaphoreConfig { permits: size, limit, waiters } = config;
         expect_in(1..=1_048_576, "permits", size as u64)?;
-        Ok(Semaphore { line: permits(size as u32, limit)? })
+        Ok(Semaphore { line: permits(size as u32, limit, waiters)? })
     }
 
     /// A permit, as soon as one comes. Dropped before, the future leaves the line.
     ///
     /// It is polled again when a permit has come to it, and doesn't ask for more. An error says
-    /// that no permit was free, and no wait is left to draw.
+    /// that no permit was free, and why it can't wait for one.
     #[inline]
     pub fn acquire(&self) -> Acquire<'_> {
         Acquire { semaphore: self, coming: self.line.coming() }
@@ -127,7 +128,7 @@ impl Semaphore {
     /// A permit. The thread sleeps until one comes.
     ///
     /// ```
-    /// # fn main() -> Result<(), cqs::Worn> {
+    /// # fn main() -> Result<(), cqs::WaitError> {
     /// let semaphore = cqs::Semaphore::new(1);
     /// let permit = semaphore.acquire_blocking()?;
     /// assert_eq!(semaphore.available_permits(), 0);
@@ -137,7 +138,7 @@ impl Semaphore {
     /// # }
     /// ```
     #[inline]
-    pub fn acquire_blocking(&self) -> Result<Permit<'_>, Worn> {
+    pub fn acquire_blocking(&self) -> Result<Permit<'_>, WaitError> {
         let held = self.line.take_blocking()?;
         Ok(Permit { semaphore: self, held })
     }
@@ -179,10 +180,10 @@ impl Semaphore {
     /// As [`Semaphore::acquire`], with a permit that borrows nothing.
     ///
     /// ```
-    /// use cqs::{OwnedPermit, Semaphore, Worn};
+    /// use cqs::{OwnedPermit, Semaphore, WaitError};
     /// use std::sync::Arc;
     ///
-    /// async fn start(semaphore: Arc<Semaphore>) -> Result<OwnedPermit, Worn> {
+    /// async fn start(semaphore: Arc<Semaphore>) -> Result<OwnedPermit, WaitError> {
     ///     // The permit can go to another task, and is given back there.
     ///     semaphore.acquire_owned().await
     /// }
@@ -191,13 +192,13 @@ impl Semaphore {
     /// # let started = start(Arc::new(Semaphore::new(1)));
     /// # assert!(std::pin::pin!(started).poll(&mut cx).is_ready());
     /// ```
-    pub async fn acquire_owned(self: Arc<Self>) -> Result<OwnedPermit, Worn> {
+    pub async fn acquire_owned(self: Arc<Self>) -> Result<OwnedPermit, WaitError> {
         let held = self.line.coming().await?;
         Ok(OwnedPermit { semaphore: self, held })
     }
 
     /// As [`Semaphore::acquire_blocking`], with a permit that borrows nothing.
-    pub fn acquire_owned_blocking(self: Arc<Self>) -> Result<OwnedPermit, Worn> {
+    pub fn acquire_owned_blocking(self: Arc<Self>) -> Result<OwnedPermit, WaitError> {
         let held = self.line.take_blocking()?;
         Ok(OwnedPermit { semaphore: self, held })
     }
@@ -255,7 +256,7 @@ pub struct Acquire<'a> {
 }
 
 impl<'a> Future for Acquire<'a> {
-    type Output = Result<Permit<'a>, Worn>;
+    type Output = Result<Permit<'a>, WaitError>;
 
     #[inline]
     fn poll(mut self: Pin<&mut Self>, cx: &mut Context<'_>) -> Poll<Self::Output> {

@@ -16,7 +16,6 @@ struct Answer {
 const NULL: u32 = 1;
 const NO_PASS: u32 = 2;
 const IN_USE: u32 = 3;
-const OWES: u32 = 4;
 const OWES_NOTHING: u32 = 5;
 const NO_PERMIT: u32 = 6;
 const NO_PARTY: u32 = 6;
@@ -35,7 +34,6 @@ const TOO_LATE: u32 = 25;
 const FREED: u32 = 26;
 const SENT: u32 = 27;
 const LEFT: u32 = 28;
-const UNDER: u32 = 30;
 const STATE: u32 = 31;
 const SOLE: u32 = 32;
 const MADE: u32 = 33;
@@ -45,9 +43,7 @@ const PASSED: u32 = 36;
 const THROUGH: u32 = 37;
 const COUNTED: u32 = 38;
 const LAST: u32 = 39;
-const LAST_OWING: u32 = 40;
 const ALREADY: u32 = 41;
-const FINISHED: u32 = 42;
 
 const KIND_POOL: u32 = 1;
 const KIND_LATCH: u32 = 2;
@@ -241,6 +237,7 @@ fn sizes_out_of_range() {
     assert_eq!(new(1, 33, 1, 1), BAD_CONFIG);
     assert_eq!(new(1, u32::MAX, 1, 1), BAD_CONFIG);
     assert_eq!(new(1, 1, 0, 1), BAD_CONFIG);
+    assert_eq!(new(1, 1, 68_719_476_737, 1), BAD_CONFIG);
     assert_eq!(new(1, 1, u64::MAX, 1), BAD_CONFIG);
     assert_eq!(new(1, 1, 1, 1_048_577), BAD_CONFIG);
 }
@@ -281,7 +278,7 @@ fn numbers_that_are_not_there() {
 }
 
 #[test]
-fn one_who_owes() {
+fn those_who_left_are_passed_over_in_one_call() {
     let s = Semaphore::new(1, 2, 200, 4);
     assert_eq!(s.split(0), with(MADE, 1));
     assert_eq!(s.acquire(0), bare(NOW));
@@ -291,14 +288,7 @@ fn one_who_owes() {
         assert_eq!(s.cancel(1, number as u64), bare(CANCELLED));
     }
     assert_eq!(s.acquire(1), with(LATER, 70));
-    let under = s.release(0);
-    assert_eq!(under.answer, UNDER);
-    for refused in [s.acquire(0), s.release(0), s.state(0), s.split(0), s.meet(0, 1)] {
-        assert_eq!(refused, bare(OWES));
-    }
-    assert_eq!(s.poll(0, 3), bare(OWES));
-    assert_eq!(s.meet(1, 0), bare(BUSY));
-    assert_eq!(s.finish(0), with(SENT, 70));
+    assert_eq!(s.release(0), with(SENT, 70));
     assert_eq!(s.finish(0), bare(OWES_NOTHING));
 }
 
@@ -342,16 +332,12 @@ fn what_a_pool_refuses() {
     assert_eq!(p.call(DO_MEET, 1, 0), bare(BUSY));
     assert_eq!(p.call(DO_MEET, 0, 1), bare(MET));
     assert_eq!(p.call(DO_SOLE, 0, 0), with(SOLE, 1));
-    // The pass owes what 64 numbers were passed over for.
+    // Those who left are passed over in one call.
     for number in 6..76 {
         assert_eq!(p.call(DO_ENTER, 0, 0), with(LATER, number));
         assert_eq!(p.call(DO_CANCEL, 0, number as u64), bare(CANCELLED));
     }
-    assert_eq!(p.call(DO_LEAVE, 0, 0).answer, UNDER);
-    for what in [DO_ENTER, DO_POLL, DO_CANCEL, DO_LEAVE, DO_SPLIT] {
-        assert_eq!(p.call(what, 0, 0), bare(OWES));
-    }
-    assert_eq!(p.call(DO_FINISH, 0, 0).answer, LEFT);
+    assert_eq!(p.call(DO_LEAVE, 0, 0).answer, LEFT);
     assert_eq!(p.call(DO_FINISH, 0, 0), bare(OWES_NOTHING));
 }
 
@@ -383,18 +369,7 @@ fn what_a_latch_refuses() {
         }
         assert_eq!(l.call(DO_ENTER, 0, 0), with(LATER, 72));
         assert_eq!(l.call(DO_LEAVE, 1, 0), with(COUNTED, 1));
-        let last = l.call(DO_LEAVE, 1, 0);
-        if kind == KIND_LATCH {
-            // The pass owes what 64 numbers were passed over for.
-            assert_eq!(last.answer, LAST_OWING);
-            for what in [DO_ENTER, DO_POLL, DO_CANCEL, DO_LEAVE, DO_SPLIT] {
-                assert_eq!(l.call(what, 1, 1), bare(OWES));
-            }
-            assert_eq!(l.call(DO_MEET, 0, 1), bare(BUSY));
-            assert_eq!(l.call(DO_FINISH, 1, 0), bare(FINISHED));
-        } else {
-            assert_eq!(last, bare(LAST));
-        }
+        assert_eq!(l.call(DO_LEAVE, 1, 0), bare(LAST));
         assert_eq!(l.call(DO_FINISH, 1, 0), bare(OWES_NOTHING));
         assert_eq!(l.call(DO_POLL, 1, 1), bare(THROUGH));
         assert_eq!(l.call(DO_POLL, 0, 72), bare(THROUGH));
@@ -442,14 +417,8 @@ fn what_a_barrier_refuses() {
     }
     assert_eq!(b.call(DO_ENTER, 0, 0), with(LATER, 72));
     assert_eq!(b.call(DO_ENTER, 0, 0), bare(FULL));
-    // The last party owes what 64 numbers were passed over for.
-    assert_eq!(b.call(DO_ENTER, 2, 0).answer, LAST_OWING);
-    for what in [DO_ENTER, DO_POLL, DO_CANCEL, DO_SPLIT] {
-        assert_eq!(b.call(what, 2, 0), bare(OWES));
-    }
+    assert_eq!(b.call(DO_ENTER, 2, 0), bare(LAST));
     assert_eq!(b.call(DO_POLL, 0, 1), bare(THROUGH));
-    assert_eq!(b.call(DO_MEET, 0, 2), bare(BUSY));
-    assert_eq!(b.call(DO_FINISH, 2, 0), bare(FINISHED));
     assert_eq!(b.call(DO_FINISH, 2, 0), bare(OWES_NOTHING));
     assert_eq!(b.call(DO_CANCEL, 0, 72), bare(TOO_LATE));
     assert_eq!(b.call(DO_ENTER, 0, 0), bare(NO_PARTY));

@@ -3,7 +3,7 @@
 mod common;
 
 use common::{Wakes, poll_once};
-use cqs::{Pool, Semaphore, Worn};
+use cqs::{Pool, Semaphore, WaitError};
 use std::future::Future;
 use std::hint::spin_loop;
 use std::pin::Pin;
@@ -17,7 +17,7 @@ use std::time::{Duration, Instant};
 const TIME: Duration = Duration::from_secs(2);
 const MOST_ROUNDS: u64 = 250_000;
 
-type Taking<'a, T> = Pin<Box<dyn Future<Output = Result<T, Worn>> + 'a>>;
+type Taking<'a, T> = Pin<Box<dyn Future<Output = Result<T, WaitError>> + 'a>>;
 
 /// How long a thread looks for what the other one does, which may have failed.
 const PATIENCE: Duration = Duration::from_secs(60);

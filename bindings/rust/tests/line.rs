@@ -4,7 +4,9 @@
 mod common;
 
 use common::{Chance, Wakes, poll_once};
-use cqs::{Item, Mutex, MutexConfig, Permit, Pool, PoolConfig, Semaphore, SemaphoreConfig, Worn};
+use cqs::{
+    Item, Mutex, MutexConfig, Permit, Pool, PoolConfig, Semaphore, SemaphoreConfig, WaitError,
+};
 use cqs::{NoneFree, TimeoutError};
 use std::collections::VecDeque;
 use std::future::Future;
@@ -13,7 +15,7 @@ use std::sync::Arc;
 use std::task::Waker;
 use std::time::Duration;
 
-type Taking<'a, T> = Pin<Box<dyn Future<Output = Result<T, Worn>> + 'a>>;
+type Taking<'a, T> = Pin<Box<dyn Future<Output = Result<T, WaitError>> + 'a>>;
 
 enum Caller<'a, T> {
     Away,
@@ -149,7 +151,8 @@ fn the_mutex_goes_to_the_first_in_line() {
 #[test]
 fn many_stand_in_a_long_line() {
     const WAITERS: usize = 20_000;
-    let semaphore = Semaphore::new(1);
+    let config = SemaphoreConfig { waiters: WAITERS, ..Default::default() };
+    let semaphore = Semaphore::with_config(config).unwrap();
     let held = semaphore.try_acquire().unwrap();
     let wakers: Vec<(Arc<Wakes>, Waker)> = (0..WAITERS).map(|_| Wakes::new()).collect();
     let mut line: Vec<Option<Taking<Permit>>> = Vec::new();
@@ -189,13 +192,14 @@ fn another_waker_is_the_one_that_is_woken() {
 
 #[test]
 fn worn_is_said_and_what_is_free_can_be_had() {
-    let semaphore = Semaphore::with_config(SemaphoreConfig { permits: 1, limit: 2 }).unwrap();
+    let semaphore =
+        Semaphore::with_config(SemaphoreConfig { limit: 2, ..Default::default() }).unwrap();
     let short = Duration::from_millis(1);
     let held = semaphore.acquire_blocking().unwrap();
     for _ in 0..2 {
         assert_eq!(semaphore.acquire_timeout(short).unwrap_err(), TimeoutError::TimedOut);
     }
-    assert_eq!(semaphore.acquire_blocking().unwrap_err(), Worn);
+    assert_eq!(semaphore.acquire_blocking().unwrap_err(), WaitError::Worn);
     assert_eq!(semaphore.acquire_timeout(short).unwrap_err(), TimeoutError::Worn);
     drop(held);
     for _ in 0..10 {
@@ -204,20 +208,20 @@ fn worn_is_said_and_what_is_free_can_be_had() {
     }
     assert_eq!(semaphore.available_permits(), 1);
 
-    let pool = Pool::with_config(["a"], PoolConfig { limit: 2 }).unwrap();
+    let pool = Pool::with_config(["a"], PoolConfig { limit: 2, ..Default::default() }).unwrap();
     let held = pool.take_blocking().unwrap();
     assert_eq!(pool.take_timeout(short).unwrap_err(), TimeoutError::TimedOut);
-    assert_eq!(pool.take_blocking().unwrap_err(), Worn);
+    assert_eq!(pool.take_blocking().unwrap_err(), WaitError::Worn);
     drop(held);
     for _ in 0..10 {
         assert!(pool.take_blocking().is_ok());
         assert!(pool.try_take().is_ok());
     }
 
-    let mutex = Mutex::with_config(0, MutexConfig { limit: 1 }).unwrap();
+    let mutex = Mutex::with_config(0, MutexConfig { limit: 1, ..Default::default() }).unwrap();
     let held = mutex.lock_blocking().unwrap();
     assert_eq!(mutex.lock_timeout(short).unwrap_err(), TimeoutError::TimedOut);
-    assert_eq!(mutex.lock_blocking().unwrap_err(), Worn);
+    assert_eq!(mutex.lock_blocking().unwrap_err(), WaitError::Worn);
     drop(held);
     *mutex.lock_blocking().unwrap() += 1;
     assert_eq!(mutex.into_inner(), 1);
@@ -225,7 +229,7 @@ fn worn_is_said_and_what_is_free_can_be_had() {
 
 #[test]
 fn a_failing_try_draws_few_waits() {
-    let pool = Pool::with_config(["a"], PoolConfig { limit: 8 }).unwrap();
+    let pool = Pool::with_config(["a"], PoolConfig { limit: 8, ..Default::default() }).unwrap();
     let held = pool.try_take().unwrap();
     for _ in 0..100 {
         assert_eq!(pool.try_take().unwrap_err(), NoneFree);

@@ -87,7 +87,8 @@ fn sizes_out_of_range() {
     assert_eq!(sizes(0, 1), "parties");
     assert_eq!(sizes(32, 1), "parties");
     assert_eq!(sizes(1, 0), "limit");
-    assert_eq!(sizes(1, 1_048_577), "limit");
+    assert_eq!(sizes(1, 68_719_476_737), "limit");
+    assert_eq!(sizes(1, 68_719_476_736), "");
     assert_eq!(sizes(31, 1), "");
 }
 

@@ -4,7 +4,7 @@
 use std::sync::atomic::{AtomicU32, Ordering};
 use std::thread;
 
-use cqs::Worn;
+use cqs::WaitError;
 use cqs::pass::{Down, Entered, Latch, LatchConfig, LatchEnd, LatchMode, LatchPass, LatchWait};
 
 fn latch(count: u32, mode: LatchMode, limit: u64) -> Latch {
@@ -68,7 +68,7 @@ fn worn_and_then_open() {
     let latch = latch(1, LatchMode::Smart, 1);
     let (mut one, mut two) = (latch.pass().unwrap(), latch.pass().unwrap());
     drop(later(&mut two));
-    assert_eq!(two.wait().err(), Some(Worn));
+    assert_eq!(two.wait().err(), Some(WaitError::Worn));
     assert_eq!(one.count_down(), Down::Last);
     assert!(matches!(two.wait(), Ok(Entered::Passed)));
 }
@@ -96,22 +96,34 @@ fn count_down(pass: &mut LatchPass, left: &mut u32, place: &str) {
         1 => Down::Last,
         left => Down::Left(left - 1),
     };
-    assert_eq!(pass.count_down(), expected, "{place}");
-    *left = left.saturating_sub(1);
+    match pass.count_down() {
+        // There is no slot for now, and nothing was counted.
+        Down::Crowded => assert!(*left > 0, "{place}"),
+        answer => {
+            assert_eq!(answer, expected, "{place}");
+            *left = left.saturating_sub(1);
+        }
+    }
 }
 
 fn wait(pass: &'static mut LatchPass, left: u32, next: &mut u64, place: &str) -> Caller {
     let at: *mut LatchPass = pass;
-    match pass.wait().unwrap() {
-        Entered::Later(wait) => {
+    match pass.wait() {
+        Ok(Entered::Later(wait)) => {
             assert!(left > 0, "{place}");
             assert_eq!(wait.number(), *next, "{place}");
             *next += 1;
             Caller::Waits(wait)
         }
-        Entered::Passed => {
+        Ok(Entered::Passed) => {
             assert_eq!(left, 0, "{place}");
             // SAFETY: the wait has ended, and the pass lives for ever.
+            Caller::Idle(unsafe { &mut *at })
+        }
+        // There is no slot for now, and no number was drawn.
+        Err(error) => {
+            assert_eq!(error, WaitError::Crowded, "{place}");
+            // SAFETY: no wait began, and the pass lives for ever.
             Caller::Idle(unsafe { &mut *at })
         }
     }

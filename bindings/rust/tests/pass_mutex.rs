@@ -1,7 +1,7 @@
 //! The mutex: rows of calls worked out by hand, calls by chance, each compared with a plain mutex,
 //! and threads that add.
 
-use cqs::Worn;
+use cqs::WaitError;
 use cqs::pass::{LockEnd, LockWait, Locked, Mutex, MutexConfig, MutexGuard, MutexPass, TryError};
 use std::collections::VecDeque;
 use std::thread;
@@ -91,7 +91,7 @@ fn worn() {
     let (mut one, mut two) = (mutex.pass().unwrap(), mutex.pass().unwrap());
     let held = now(&mut one);
     drop(later(&mut two));
-    assert_eq!(two.lock().err(), Some(Worn));
+    assert_eq!(two.lock().err(), Some(WaitError::Worn));
     drop(held);
     assert!(two.try_lock().is_ok());
 }

@@ -2,7 +2,7 @@
 //! and threads that share its values.
 
 use cqs::pass::{Item, Pool, PoolConfig, PoolPass, TakeEnd, TakeWait, Taken};
-use cqs::{MakeError, Worn};
+use cqs::{MakeError, WaitError};
 use std::collections::VecDeque;
 use std::sync::atomic::{AtomicBool, AtomicU64, Ordering};
 use std::thread;
@@ -90,7 +90,7 @@ fn worn() {
     let pool = pool(2, 1);
     let mut one = pool.pass().unwrap();
     drop(now(&mut one));
-    assert_eq!(one.take().err(), Some(Worn));
+    assert_eq!(one.take().err(), Some(WaitError::Worn));
 }
 
 #[test]
@@ -106,7 +106,8 @@ fn sizes_out_of_range() {
     assert_eq!(sizes(1, 0, 1), "passes");
     assert_eq!(sizes(1, 32, 1), "passes");
     assert_eq!(sizes(1, 1, 0), "limit");
-    assert_eq!(sizes(1, 1, 1_048_577), "limit");
+    assert_eq!(sizes(1, 1, 68_719_476_737), "limit");
+    assert_eq!(sizes(1, 1, 68_719_476_736), "");
     assert_eq!(sizes(4_096, 31, 1), "");
 }
 

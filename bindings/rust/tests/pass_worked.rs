@@ -3,7 +3,7 @@
 use cqs::pass::{
     Acquired, Cancelled, Permit, Semaphore, SemaphoreConfig, SemaphorePass, TryError, Wait,
 };
-use cqs::{MakeError, Worn};
+use cqs::{MakeError, WaitError};
 
 fn semaphore(permits: u32, limit: u64) -> Semaphore {
     Semaphore::new(SemaphoreConfig { permits, limit, ..SemaphoreConfig::default() })
@@ -110,9 +110,9 @@ fn worn() {
     let (mut one, mut two) = (semaphore.pass().unwrap(), semaphore.pass().unwrap());
     let held = now(&mut one);
     drop(later(&mut two));
-    assert_eq!(two.acquire().err(), Some(Worn));
+    assert_eq!(two.acquire().err(), Some(WaitError::Worn));
     held.release();
-    assert_eq!(two.acquire().err(), Some(Worn));
+    assert_eq!(two.acquire().err(), Some(WaitError::Worn));
     assert!(two.try_acquire().is_ok());
 }
 
@@ -129,7 +129,8 @@ fn sizes_out_of_range() {
     assert_eq!(sizes(1, 0, 1), "passes");
     assert_eq!(sizes(1, 32, 1), "passes");
     assert_eq!(sizes(1, 1, 0), "limit");
-    assert_eq!(sizes(1, 1, 1_048_577), "limit");
+    assert_eq!(sizes(1, 1, 68_719_476_737), "limit");
+    assert_eq!(sizes(1, 1, 68_719_476_736), "");
     assert_eq!(sizes(1_048_576, 31, 1), "");
 }
 

@@ -3,7 +3,9 @@
 mod common;
 
 use common::{Chance, Counted, Executor, poll_once, yield_once};
-use cqs::{Barrier, Latch, Mutex, Pool, Semaphore};
+use cqs::{
+    Barrier, Latch, LatchConfig, Mutex, MutexConfig, Pool, PoolConfig, Semaphore, SemaphoreConfig,
+};
 use std::future::Future;
 use std::pin::pin;
 use std::sync::Arc;
@@ -13,6 +15,9 @@ use std::time::Duration;
 
 const TASKS: u64 = 10_000;
 const THREADS: usize = 4;
+
+/// All of them may wait at once, and those who leave may be far apart from those who stay.
+const WAITERS: usize = 4 * TASKS as usize;
 
 /// The most polls that a future needed, and the most that it asked for.
 #[derive(Default)]
@@ -42,7 +47,8 @@ impl Most {
 #[test]
 fn ten_thousand_tasks_share_three_permits() {
     let executor = Executor::new();
-    let semaphore = Arc::new(Semaphore::new(3));
+    let config = SemaphoreConfig { permits: 3, waiters: WAITERS, ..Default::default() };
+    let semaphore = Arc::new(Semaphore::with_config(config).unwrap());
     let (inside, worked) = (Arc::new(AtomicUsize::new(0)), Arc::new(AtomicU64::new(0)));
     let most = Arc::new(Most::default());
     for task in 0..TASKS {
@@ -100,7 +106,8 @@ fn ten_thousand_tasks_share_three_permits() {
 #[test]
 fn ten_thousand_tasks_add_behind_a_mutex() {
     let executor = Executor::new();
-    let sum = Arc::new(Mutex::new(0u64));
+    let config = MutexConfig { waiters: WAITERS, ..Default::default() };
+    let sum = Arc::new(Mutex::with_config(0u64, config).unwrap());
     let most = Arc::new(Most::default());
     for task in 0..TASKS {
         let (sum, most) = (sum.clone(), most.clone());
@@ -123,7 +130,8 @@ fn ten_thousand_tasks_add_behind_a_mutex() {
 #[test]
 fn ten_thousand_tasks_share_values() {
     let executor = Executor::new();
-    let pool = Arc::new(Pool::new([0u64; 5]));
+    let config = PoolConfig { waiters: WAITERS, ..Default::default() };
+    let pool = Arc::new(Pool::with_config([0u64; 5], config).unwrap());
     let given_up = Arc::new(AtomicU64::new(0));
     for task in 0..TASKS {
         let (pool, given_up) = (pool.clone(), given_up.clone());
@@ -151,7 +159,8 @@ fn ten_thousand_tasks_share_values() {
 #[test]
 fn ten_thousand_tasks_wait_for_a_latch() {
     let executor = Executor::new();
-    let latch = Arc::new(Latch::new(4));
+    let config = LatchConfig { count: 4, waiters: WAITERS, ..Default::default() };
+    let latch = Arc::new(Latch::with_config(config).unwrap());
     let passed = Arc::new(AtomicU64::new(0));
     let most = Arc::new(Most::default());
     for task in 0..TASKS {

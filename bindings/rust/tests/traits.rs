@@ -3,7 +3,7 @@
 use cqs::{
     BadNumber, Barrier, BarrierConfig, BarrierWait, CountDown, Item, Latch, LatchConfig, MakeError,
     Mutex, MutexConfig, MutexGuard, NoneFree, OwnedItem, OwnedMutexGuard, OwnedPermit, Permit,
-    Pool, PoolConfig, Semaphore, SemaphoreConfig, TimeoutError, Worn, pass,
+    Pool, PoolConfig, Semaphore, SemaphoreConfig, TimeoutError, WaitError, pass,
 };
 use std::cell::Cell;
 use std::error::Error;
@@ -72,7 +72,7 @@ fn they_are_shown() {
 
 #[test]
 fn errors_say_what_is_wrong() {
-    is_error::<Worn>();
+    is_error::<WaitError>();
     is_error::<NoneFree>();
     is_error::<TimeoutError>();
     is_error::<MakeError>();
@@ -85,18 +85,26 @@ fn errors_say_what_is_wrong() {
         _ => panic!("it is out of range"),
     };
     let semaphore = |permits, limit| {
-        refused(Semaphore::with_config(SemaphoreConfig { permits, limit }).map(drop))
+        let config = SemaphoreConfig { permits, limit, ..SemaphoreConfig::default() };
+        refused(Semaphore::with_config(config).map(drop))
     };
     assert_eq!(semaphore(0, 1), ("permits", 0, 1..=1_048_576));
     assert_eq!(semaphore(1_048_577, 1), ("permits", 1_048_577, 1..=1_048_576));
-    assert_eq!(semaphore(1, 0), ("limit", 0, 1..=1_048_576));
-    let mutex = |limit| refused(Mutex::with_config((), MutexConfig { limit }).map(drop));
-    assert_eq!(mutex(1_048_577), ("limit", 1_048_577, 1..=1_048_576));
+    assert_eq!(semaphore(1, 0), ("limit", 0, 1..=68_719_476_736));
+    let mutex =
+        |limit, waiters| refused(Mutex::with_config((), MutexConfig { limit, waiters }).map(drop));
+    assert_eq!(mutex(68_719_476_737, 1), ("limit", 68_719_476_737, 1..=68_719_476_736));
+    assert_eq!(mutex(1, 0), ("waiters", 0, 1..=1_048_576));
+    assert_eq!(mutex(1, 1_048_577), ("waiters", 1_048_577, 1..=1_048_576));
     let pool = |size| refused(Pool::with_config(vec![(); size], PoolConfig::default()).map(drop));
     assert_eq!(pool(0), ("values", 0, 1..=4096));
     assert_eq!(pool(4097), ("values", 4097, 1..=4096));
-    let latch = |count| refused(Latch::with_config(LatchConfig { count, limit: 1 }).map(drop));
-    assert_eq!(latch(1_048_577), ("count", 1_048_577, 0..=1_048_576));
+    let latch = |count, limit| {
+        let config = LatchConfig { count, limit, ..LatchConfig::default() };
+        refused(Latch::with_config(config).map(drop))
+    };
+    assert_eq!(latch(1_048_577, 1), ("count", 1_048_577, 0..=1_048_576));
+    assert_eq!(latch(1, 4_294_967_233), ("limit", 4_294_967_233, 1..=4_294_967_232));
     let barrier = |parties| refused(Barrier::with_config(BarrierConfig { parties }).map(drop));
     assert_eq!(barrier(33), ("parties", 33, 1..=32));
     let error = Barrier::with_config(BarrierConfig { parties: 0 }).unwrap_err();

@@ -1,5 +1,5 @@
 -- What `cqs_new` makes, by the numbers of the header.
-use Rattle.std.specs.Prelude.{◌≡◌, ℕ, ◌+◌, ◌*◌, ◌/◌, ◌==◌, if◌then◌else◌, Option, Some, None}
+use Rattle.std.specs.Prelude.{◌≡◌, ℕ, ◌+◌, ◌*◌, ◌/◌, ◌==◌, nat_le, if◌then◌else◌, Option, Some, None}
 use Rattle.cqs_rule_laws.specs.declared.config.CancelMode.TheVariants.{Smart, Simple}
 use Rattle.cqs_rule_laws.specs.declared.config.Config.{Config}
 use Rattle.cqs_c_numbers.specs.declared.numbered.Numbered.{Numbered}
@@ -18,12 +18,20 @@ kind_at n =
     else if n == 4 then Some Barrier
     else None
 
--- how it is configured: a pool's elements need room for their cells
-abbrev pub config_of : ℕ → ℕ → ℕ → ℕ → Config
-config_of kind size passes limit = record {
+-- how many slots are wanted: 32 waits stand in one, each pass has two spare ones, a pool's elements
+-- need room for their cells, and the wait of each party may keep a slot of its own
+abbrev pub wanted_slots : ℕ → ℕ → ℕ → ℕ → ℕ
+wanted_slots kind size passes waits =
+    waits * passes / 32 + 2 * passes + 2
+    + (if kind == 1 then size / 32 + 1 else if kind == 4 then size else 0)
+
+-- how it is configured, with as many of the wanted slots as there may be
+abbrev pub config_of : ℕ → ℕ → ℕ → ℕ → ℕ → Config
+config_of kind size passes limit waits = record {
   passes = passes;
   limit = limit;
-  slots = 2 * passes + 3 + (if kind == 1 then size / 32 else 0);
+  slots = if nat_le (wanted_slots kind size passes waits) 65535
+      then wanted_slots kind size passes waits else 65535;
 }
 
 -- The primitive is of this kind, and of so many permits, elements, counts or parties; its first

@@ -62,3 +62,4 @@ told answer.Last = bare 39
 told (answer.LastOwing k) = with_wait 40 k
 told answer.Already = bare 41
 told answer.Finished = bare 42
+told answer.Crowded = bare 44

@@ -106,5 +106,6 @@ pub(crate) fn tell(answer: Answer) -> CqsAnswer
         Answer::LastOwing(number) => with_wait(40, number),
         Answer::Already => bare(41),
         Answer::Finished => bare(42),
+        Answer::Crowded => bare(44),
     }
 }

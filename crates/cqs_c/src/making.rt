@@ -1,7 +1,7 @@
 //! How C gets a primitive.
 
 ghost use Rattle.std.specs.Prelude.{◌≡◌, ◌≢◌, ◌⊎◌, ◌<◌, ◌≤◌, IfErr, IfOk};
-ghost use Rattle.cqs_c.specs.Making.{IsOfKind, config_of as told_config, kind_at};
+ghost use Rattle.cqs_c.specs.Making.{IsOfKind, config_of as told_config, kind_at, wanted_slots};
 
 use cqs_c_numbers::Numbered;
 use cqs_rule::{CancelMode, Config, MakeError};
@@ -12,6 +12,9 @@ const MEMORY: u32 = 11;
 
 /// A number is out of range.
 const BAD_CONFIG: u32 = 13;
+
+/// So many slots a primitive has at most.
+const MOST_SLOTS: u64 = 65_535;
 
 /// What may be made.
 enum Kind {
@@ -34,15 +37,36 @@ fn kind_of(kind: u32) -> Option<Kind>
     }
 }
 
-fn config_of(kind: u32, size: u32, passes: u32, limit: u64) -> Config
-    requires { passes ≤ 32 }
-    ensures { result ≡ told_config kind size passes limit }
+// Nobody has to think of slots: there are enough for as many who wait at once as all passes have
+// room for, if they came one after the other. A pool's elements need room for their cells. Where a
+// party could find no slot, all others would wait for it for ever; so each may keep one.
+fn slots_wanted(kind: u32, size: u32, passes: u32, waits: u32) -> u64
+    ensures { result ≡ wanted_slots kind size passes waits }
 {
+    let (size, passes, waits) = (u64::from(size), u64::from(passes), u64::from(waits));
+    let more = if kind == 1 {
+        size / 32 + 1
+    } else if kind == 4 {
+        size
+    } else {
+        0
+    };
+    waits * passes / 32 + 2 * passes + 2 + more
+}
+
+fn config_of(kind: u32, size: u32, passes: u32, limit: u64, waits: u32) -> Config
+    ensures { result ≡ told_config kind size passes limit waits }
+{
+    let wanted = slots_wanted(kind, size, passes, waits);
+    let slots = if wanted <= MOST_SLOTS {
+        wanted as u32
+    } else {
+        65_535
+    };
     Config {
         passes,
         limit,
-        // A pool's elements need room for their cells.
-        slots: 2 * passes + 3 + if kind == 1 { size / 32 } else { 0 },
+        slots,
     }
 }
 
@@ -76,14 +100,14 @@ fn make_boxed(
     waits: u32,
 ) -> Result<Box<Numbered>, u32>
     ensures made { IfOk result (λ made. IsOfKind (kind_at kind) size
-        (told_config kind size passes limit) waits made.value) }
+        (told_config kind size passes limit waits) waits made.value) }
     ensures refused { IfErr result (λ status. (status ≡ 11) ⊎ (status ≡ 13)) }
     ensures bad_config { 32 < passes → result ≡ Err 13 }
 {
     if passes > 32 {
         return Err(BAD_CONFIG);
     }
-    let config = config_of(kind, size, passes, limit);
+    let config = config_of(kind, size, passes, limit, waits);
     let made = match make(alloc, kind, size, config, waits) {
         Ok(made) => made,
         Err(MakeError::BadConfig) => return Err(BAD_CONFIG),

@@ -4,4 +4,3 @@ pub mod Every
 pub mod TokenSteps
 pub mod PoolKept
 pub mod NotRefused
-pub mod Refusals

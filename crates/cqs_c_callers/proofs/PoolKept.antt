@@ -20,7 +20,7 @@ use Rattle.cqs_c_callers.specs.PoolCallers.{OwesJust, HasElements}
 use Rattle.cqs_c_callers.specs.Tokens.{IsTaken}
 use Rattle.cqs_c_callers.proofs.TokenSteps.{apart_more, taken_one, taken_all, taken_apart, taken_others}
 use Rattle.cqs_c_callers.proofs.Waits.{all_both, shorter}
-use Rattle.cqs_c_callers.proofs.Every.{every_same, no_more, one_fewer}
+use Rattle.cqs_c_callers.proofs.Every.{every_same, every_back, no_more, one_fewer}
 
 -- a caller who has no token of a resumption owes none where its pass is ready
 pub owes-none : (f : Facts) (o : Option token.Under) → false ≡ is_some o → IsReady f → OwesJust f o
@@ -89,6 +89,19 @@ elements_less f g number xs ys x t less h =
       apart = apart;
       every = omega arith;
     }
+
+-- one that was taken out is back
+pub elements_back : (f g : Facts) (number : ℕ) (xs ys : List Element) (x : Element) → IsTaken number_of number xs x ys
+    → g.has.slots ≡ f.has.slots → HasElements f xs → HasElements g (ys ++ x ∷ [])
+elements_back f g number xs ys x t same h =
+    elements_same f g (ys ++ x ∷ []) same (record {
+      has = All-push (λ y. IsInHand (number_of y) f) ys x
+          (taken_all number_of number xs ys x t (λ y. IsInHand (number_of y) f) h.has)
+          (taken_one number_of number xs ys x t (λ y. IsInHand (number_of y) f) h.has);
+      apart = apart_more number_of ys x (taken_apart number_of number xs ys x t h.apart)
+          (taken_others number_of number xs ys x t h.apart);
+      every = every_back number_of number xs ys x t x (ys ++ x ∷ []) f.has.slots f.has.slots refl refl h.every;
+    })
 
 module _ {T : Type 0} where
   -- what the end of one does

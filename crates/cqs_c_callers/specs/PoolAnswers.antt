@@ -2,25 +2,28 @@
 -- caller's, and leaves the caller as it was; or it was one call of the pool, whose answer is told,
 -- and of whose contract those clauses hold that stand here. What it says of a pass that is alone,
 -- or of the only caller, isn't among them.
-use Rattle.std.specs.Prelude.{◌≡◌, ◌≢◌, ◌⊎◌, ℕ, ◌≤◌, true, [], ◌∷◌, All, None, IsSome, Result, OnErr, IfOk, vec_len, vec_capacity}
+use Rattle.std.specs.Prelude.{◌≡◌, ◌≢◌, ◌⊎◌, ℕ, ◌≤◌, true, [], All, None, IsSome, Result, IsErrOf, OnErr, IfOk, vec_len, vec_capacity}
 use Rattle.cqs_rule_laws.specs.declared.config.AcquireError.{AcquireError}
+use Rattle.cqs_rule_laws.specs.declared.config.AcquireError.TheVariants as refused
+use Rattle.cqs_rule_laws.specs.declared.config.Crowded.{Crowded}
 use Rattle.cqs_rule.specs.declared.queue.tokens.Under.{Under}
 use Rattle.cqs_rule.specs.declared.queue.tokens.Wait.{Wait}
 use Rattle.cqs_rule_laws.specs.declared.view.View.{View}
 use Rattle.cqs_rule_laws.specs.Lists.{without}
+use Rattle.cqs_rule.specs.Claims.{WasCrowded}
 use Rattle.cqs_rule.specs.Owed.{HasUnder, under_payload}
 use Rattle.cqs_rule.specs.Passes.{pass_view}
 use Rattle.cqs_rule.specs.Waits.{place_of, HasWait}
 use Rattle.cqs_pool_object.specs.declared.entries.PoolEntry.{PoolEntry}
-use Rattle.cqs_pool_object.specs.declared.entries.PoolEntry.TheVariants as entry
+use Rattle.cqs_pool.specs.declared.element.Element.{Element}
 use Rattle.cqs_pool.specs.declared.answers.Placed.{Placed}
 use Rattle.cqs_pool.specs.declared.answers.PoolLeft.{PoolLeft}
 use Rattle.cqs_pool.specs.declared.answers.PoolPolled.{PoolPolled}
 use Rattle.cqs_pool.specs.declared.answers.Taking.{Taking}
-use Rattle.cqs_pool.specs.Answers.{IsWorn, Takes, Ends, IsPolled, IsInHand}
+use Rattle.cqs_pool.specs.Answers.{IsWorn, IsCrowded, Takes, Ends, IsPolled, IsInHand}
 use Rattle.cqs_pool.specs.Calls.{CallRule}
 use Rattle.cqs_pool.specs.Elements.{number_of}
-use Rattle.cqs_pool.specs.Entries.{took_entries, took_further, polled_entries, placed_further}
+use Rattle.cqs_pool.specs.Entries.{took_entries, took_further, polled_entries, put_entries, put_further, placed_further}
 use Rattle.cqs_pool.specs.Seats.{LookedOn, SeesAll}
 use Rattle.cqs_pool.specs.Steps.{HasCancelled}
 use Rattle.cqs_c_callers.specs.declared.answers.Answer.{Answer}
@@ -28,7 +31,7 @@ use Rattle.cqs_c_callers.specs.declared.answers.Answer.TheVariants as answer
 use Rattle.cqs_c_callers.specs.declared.pool_caller.PoolCaller.{PoolCaller}
 use Rattle.cqs_c_callers.specs.declared.verb.Verb.{Verb}
 use Rattle.cqs_c_callers.specs.declared.verb.Verb.TheVariants as verb
-use Rattle.cqs_c_callers.specs.PoolTold.{told_taken, told_polled, told_left, told_placed}
+use Rattle.cqs_c_callers.specs.PoolTold.{told_taken, told_polled, told_left, told_placed, told_put}
 
 -- there is no room for another element
 abbrev pub IsLaden : PoolCaller → Type 0
@@ -71,7 +74,8 @@ module _ {T : Type 0} where
     pub given : Result Taking AcquireError
     pub told : a ≡ told_taken given
     pub called : CallRule v (took_entries v.number given) (took_further given) w
-    pub worn : OnErr given (IsWorn v w)
+    pub worn : IsErrOf given refused.Worn → IsWorn v w
+    pub crowded : IsErrOf given refused.Crowded → IsCrowded v w
     pub took : IfOk given (λ x. Takes v x w)
 
   -- a look at the wait of this number, which the pass had
@@ -99,10 +103,11 @@ module _ {T : Type 0} where
   pub record HasPut (n : ℕ) (v : View PoolEntry T) (a : Answer) (w : View PoolEntry T)
       : Type 0 where
     pub had : IsInHand n v.facts
-    pub given : Placed
-    pub told : a ≡ told_placed given
-    pub called : CallRule v (entry.Put v.number n ∷ []) (placed_further n given) w
-    pub ends : Ends v n (without n v.facts.has.slots) v.facts.waits given w
+    pub given : Result Placed (Element × Crowded)
+    pub told : a ≡ told_put given
+    pub called : CallRule v (put_entries v.number n given) (put_further n given) w
+    pub crowded : OnErr given (WasCrowded 1 v.facts v w)
+    pub ends : IfOk given (λ x. Ends v n (without n v.facts.has.slots) v.facts.waits x w)
 
   -- the element went on whose resumption was owed
   pub record HasFinished (v : View PoolEntry T) (a : Answer) (w : View PoolEntry T) : Type 0 where

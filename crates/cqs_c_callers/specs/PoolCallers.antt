@@ -1,10 +1,10 @@
 -- How a caller of a pool stands between two calls.
-use Rattle.std.specs.Prelude.{◌≡◌, List, All, Option, Some, None, length, true}
+use Rattle.std.specs.Prelude.{◌≡◌, List, All, Option, Some, None, length}
 use Rattle.cqs_rule.specs.declared.queue.tokens.Under.{Under}
 use Rattle.cqs_rule_laws.specs.declared.carries.Unparked.{Unparked}
 use Rattle.cqs_rule_laws.specs.declared.view.Facts.{Facts}
 use Rattle.cqs_rule.specs.Owed.{HasUnder}
-use Rattle.cqs_rule.specs.Passes.{ample_of, pass_view}
+use Rattle.cqs_rule.specs.Passes.{pass_view}
 use Rattle.cqs_pool.specs.declared.element.Element.{Element}
 use Rattle.cqs_pool.specs.declared.pool.Pool.{Pool}
 use Rattle.cqs_pool.specs.Answers.{IsInHand}
@@ -30,7 +30,6 @@ pub record HasElements (f : Facts) (xs : List Element) : Type 0 where
 -- tokens of waits of the pass, as many as it has, and the elements that it has in hand.
 pub record StandsAt (p : Pool Unparked) (c : PoolCaller) : Type 0 where
   pub belongs : IsMine p c.pass
-  pub ample : ample_of p.queue ≡ true
   pub owes : OwesJust (pass_view c.pass).facts c.under
   pub waits : HasTokens (λ wait. wait) (pass_view c.pass) c.waits.items
   pub every : length c.waits.items ≡ length (pass_view c.pass).facts.waits

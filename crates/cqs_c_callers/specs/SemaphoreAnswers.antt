@@ -2,22 +2,26 @@
 -- and leaves it as it was; or it was one call of the semaphore, whose answer is told, and of whose
 -- contract those clauses hold that stand here. What it says of a pass that is alone isn't among
 -- them.
-use Rattle.std.specs.Prelude.{◌≡◌, ◌≢◌, ◌⊎◌, ℕ, ◌≤◌, true, [], All, None, IsSome, Result, OnErr, IfOk, vec_len, vec_capacity}
+use Rattle.std.specs.Prelude.{◌≡◌, ◌≢◌, ◌⊎◌, ℕ, ◌≤◌, true, [], All, None, IsSome, Result, IsErrOf, OnErr, IfOk, vec_len, vec_capacity}
 use Rattle.cqs_core.specs.declared.entries.Entry.{Entry}
 use Rattle.cqs_core.specs.SemaphoreShown.{state_of}
 use Rattle.cqs_rule_laws.specs.declared.config.AcquireError.{AcquireError}
+use Rattle.cqs_rule_laws.specs.declared.config.AcquireError.TheVariants as refused
+use Rattle.cqs_rule_laws.specs.declared.config.Crowded.{Crowded}
 use Rattle.cqs_rule.specs.declared.queue.tokens.Wait.{Wait}
 use Rattle.cqs_rule_laws.specs.declared.view.View.{View}
+use Rattle.cqs_rule.specs.Claims.{WasCrowded}
 use Rattle.cqs_rule.specs.Passes.{pass_view}
 use Rattle.cqs_rule.specs.Waits.{place_of, HasWait}
 use Rattle.cqs_semaphore.specs.declared.answers.Acquired.{Acquired}
+use Rattle.cqs_semaphore.specs.declared.answers.Permit.{Permit}
 use Rattle.cqs_semaphore.specs.declared.answers.Tried.{Tried}
 use Rattle.cqs_semaphore.specs.declared.answers.Released.{Released}
 use Rattle.cqs_semaphore.specs.declared.answers.Polled.{Polled}
 use Rattle.cqs_semaphore.specs.declared.answers.CancelAnswer.{CancelAnswer}
-use Rattle.cqs_semaphore.specs.Answers.{IsWorn, Acquires, Tries, IsPolled, Releases, Ends}
+use Rattle.cqs_semaphore.specs.Answers.{IsWorn, IsCrowded, Acquires, Tries, IsPolled, Releases, Ends}
 use Rattle.cqs_semaphore.specs.Calls.{CallRule, plain_after}
-use Rattle.cqs_semaphore.specs.Entries.{acquired_entries, acquired_further, tried_entries, polled_entries, gave_entries, resumed_further}
+use Rattle.cqs_semaphore.specs.Entries.{acquired_entries, acquired_further, tried_entries, polled_entries, released_entries, released_further, resumed_further}
 use Rattle.cqs_semaphore.specs.Seats.{LookedOn, SeesAll}
 use Rattle.cqs_semaphore.specs.Steps.{HasCancelled}
 use Rattle.cqs_c_callers.specs.declared.answers.Answer.{Answer}
@@ -25,7 +29,7 @@ use Rattle.cqs_c_callers.specs.declared.answers.Answer.TheVariants as answer
 use Rattle.cqs_c_callers.specs.declared.semaphore_caller.SemaphoreCaller.{SemaphoreCaller}
 use Rattle.cqs_c_callers.specs.declared.verb.Verb.{Verb}
 use Rattle.cqs_c_callers.specs.declared.verb.Verb.TheVariants as verb
-use Rattle.cqs_c_callers.specs.SemaphoreTold.{told_acquired, told_tried, told_polled, told_cancelled, told_released}
+use Rattle.cqs_c_callers.specs.SemaphoreTold.{told_acquired, told_tried, told_polled, told_cancelled, told_given, told_released}
 
 -- why a call is refused: the pass owes a resumption; or there is no room for its wait, it has no
 -- wait of the number, or it holds no permit; or it owes nothing that might be finished
@@ -68,7 +72,8 @@ module _ {T : Type 0} where
     pub given : Result Acquired AcquireError
     pub told : a ≡ told_acquired given
     pub called : CallRule v (acquired_entries v.number given) (acquired_further given) w
-    pub worn : OnErr given (IsWorn v w)
+    pub worn : IsErrOf given refused.Worn → IsWorn v w
+    pub crowded : IsErrOf given refused.Crowded → IsCrowded v w
     pub acquired : IfOk given (λ x. Acquires v x w)
 
   -- a try
@@ -99,10 +104,11 @@ module _ {T : Type 0} where
 
   -- a release
   pub record HasReleased (v : View Entry T) (a : Answer) (w : View Entry T) : Type 0 where
-    pub given : Released
-    pub told : a ≡ told_released given
-    pub called : CallRule v (gave_entries v.number given) (resumed_further given) w
-    pub released : Releases v given w
+    pub given : Result Released (Permit × Crowded)
+    pub told : a ≡ told_given given
+    pub called : CallRule v (released_entries v.number given) (released_further given) w
+    pub crowded : OnErr given (WasCrowded 1 v.facts v w)
+    pub released : IfOk given (λ x. Releases v x w)
 
   -- what was owed went on
   pub record HasFinished (v : View Entry T) (a : Answer) (w : View Entry T) : Type 0 where

@@ -1,11 +1,11 @@
 -- How a caller stands between two calls.
-use Rattle.std.specs.Prelude.{◌≡◌, ℕ, All, Option, Some, None, length, true}
+use Rattle.std.specs.Prelude.{◌≡◌, ℕ, All, Option, Some, None, length}
 use Rattle.cqs_rule.specs.declared.queue.tokens.Under.{Under}
 use Rattle.cqs_rule_laws.specs.declared.carries.Unparked.{Unparked}
 use Rattle.cqs_rule_laws.specs.declared.view.Facts.{Facts}
 use Rattle.cqs_rule.specs.Owed.{HasUnder}
 use Rattle.cqs_rule.specs.declared.queue.tokens.Wait.{Wait}
-use Rattle.cqs_rule.specs.Passes.{ample_of, pass_view}
+use Rattle.cqs_rule.specs.Passes.{pass_view}
 use Rattle.cqs_rule.specs.Waits.{HasWait, place_of}
 use Rattle.cqs_semaphore.specs.declared.semaphore.Semaphore.{Semaphore}
 use Rattle.cqs_rule_laws.specs.CallRule.{IsReady}
@@ -23,7 +23,6 @@ OwesJust f (Some under) = HasUnder f under × (f.has.further ≡ 0)
 -- each that the pass has is kept.
 pub record StandsAt (s : Semaphore Unparked) (c : SemaphoreCaller) : Type 0 where
   pub belongs : IsMine s c.pass
-  pub ample : ample_of s.queue ≡ true
   pub owes : OwesJust (pass_view c.pass).facts c.under
   pub waits : All (HasAt (pass_view c.pass)) c.waits.items
   pub apart : Apart c.waits.items

@@ -25,6 +25,9 @@ pub enum Answer {
     Full,
     /// As many waits were drawn as the primitive was made for.
     Worn,
+    /// The call may need a slot for the cells of more numbers, and each was seen taken. Nothing
+    /// else came of it, and the pass has what it had. A later call may find one free.
+    Crowded,
     /// As many passes were made as the primitive was made for.
     Crowd,
     /// There is no memory for another pass.

@@ -40,7 +40,6 @@ impl PoolCaller {
         elements: Vec<Element>,
     ) -> PoolCaller
         requires belongs { IsMine pool.now pass }
-        requires ample { ample_of pool.now.queue ≡ true }
         requires ready { IsReady (pass_view pass).facts }
         requires waits_for_nothing { (pass_view pass).facts.waits ≡ [] }
         requires has_nothing { (pass_view pass).facts.has.slots ≡ [] }
@@ -84,6 +83,7 @@ impl PoolCaller {
         ensures owes { IsSome self.old.under → (result ≡ answer.Owes) × (self.new ≡ self.old) }
         ensures full { self.old.under ≡ None → vec_capacity self.old.waits ≤ vec_len self.old.waits
             → (result ≡ answer.Full) × (self.new ≡ self.old) }
+        ensures never_crowded { ample_of pool.now.queue ≡ true → result ≢ answer.Crowded }
         ensures answered { IsAnswered verbs.Enter 0 self.old result self.new }
     {
         if self.under.is_some() {
@@ -107,7 +107,7 @@ impl PoolCaller {
                 Answer::Later(number)
             }
             Err(AcquireError::Worn) => Answer::Worn,
-            Err(AcquireError::Crowded) => unreachable!(),
+            Err(AcquireError::Crowded) => Answer::Crowded,
         }
     }
 
@@ -179,7 +179,7 @@ impl PoolCaller {
         }
     }
 
-    /// Puts the element of this number back.
+    /// Puts the element of this number back. One that is refused as crowded stays with the pass.
     pub fn put(&mut self, pool: &Pool<Unparked>, number: u64) -> Answer
         requires stands { StandsAt pool.now self.old }
         ensures stands { StandsAt pool.now self.new }
@@ -187,6 +187,7 @@ impl PoolCaller {
         ensures no_element { self.old.under ≡ None
             → All (λ x. number_of x ≢ number) self.old.elements.items
             → (result ≡ answer.NoElement) × (self.new ≡ self.old) }
+        ensures never_crowded { ample_of pool.now.queue ≡ true → result ≢ answer.Crowded }
         ensures answered { IsAnswered verbs.Leave number self.old result self.new }
     {
         if self.under.is_some() {
@@ -197,7 +198,10 @@ impl PoolCaller {
         };
         match pool.put(&mut self.pass, element) {
             Ok(placed) => self.keep(pool, placed),
-            Err(_) => unreachable!(),
+            Err((element, _)) => {
+                self.elements.push_reserved(element);
+                Answer::Crowded
+            }
         }
     }
 
@@ -296,7 +300,6 @@ impl PoolCaller {
     // Keeps the token of what is still owed.
     fn keep(&mut self, pool: &Pool<Unparked>, placed: Placed) -> Answer
         requires belongs { IsMine pool.now self.old.pass }
-        requires ample { ample_of pool.now.queue ≡ true }
         requires free { self.old.under ≡ None }
         requires owes { OwesJust (pass_view self.old.pass).facts (owed_after placed) }
         requires waits { HasTokens (λ wait. wait) (pass_view self.old.pass) self.old.waits.items }

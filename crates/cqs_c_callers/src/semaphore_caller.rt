@@ -36,7 +36,6 @@ impl SemaphoreCaller {
         room: Vec<Place>,
     ) -> SemaphoreCaller
         requires belongs { IsMine semaphore.now pass }
-        requires ample { ample_of semaphore.now.queue ≡ true }
         requires ready { IsReady (pass_view pass).facts }
         requires waits_for_nothing { (pass_view pass).facts.waits ≡ [] }
         requires empty { room.items ≡ [] }
@@ -77,6 +76,7 @@ impl SemaphoreCaller {
         ensures owes { IsSome self.old.under → (result ≡ answer.Owes) × (self.new ≡ self.old) }
         ensures full { self.old.under ≡ None → vec_capacity self.old.waits ≤ vec_len self.old.waits
             → (result ≡ answer.Full) × (self.new ≡ self.old) }
+        ensures never_crowded { ample_of semaphore.now.queue ≡ true → result ≢ answer.Crowded }
         ensures answered { IsAnswered verbs.Enter 0 self.old result self.new }
     {
         if self.under.is_some() {
@@ -93,7 +93,7 @@ impl SemaphoreCaller {
                 Answer::Later(at.index)
             }
             Err(AcquireError::Worn) => Answer::Worn,
-            Err(AcquireError::Crowded) => unreachable!(),
+            Err(AcquireError::Crowded) => Answer::Crowded,
         }
     }
 
@@ -178,6 +178,7 @@ impl SemaphoreCaller {
         ensures owes { IsSome self.old.under → (result ≡ answer.Owes) × (self.new ≡ self.old) }
         ensures no_permit { self.old.under ≡ None → (pass_view self.old.pass).facts.has.held ≡ 0
             → (result ≡ answer.NoPermit) × (self.new ≡ self.old) }
+        ensures never_crowded { ample_of semaphore.now.queue ≡ true → result ≢ answer.Crowded }
         ensures answered { IsAnswered verbs.Leave 0 self.old result self.new }
     {
         if self.under.is_some() {
@@ -189,7 +190,7 @@ impl SemaphoreCaller {
         let permit = semaphore.permit_of(&self.pass);
         match semaphore.release(&mut self.pass, permit) {
             Ok(released) => self.keep(semaphore, released),
-            Err(_) => unreachable!(),
+            Err(_) => Answer::Crowded,
         }
     }
 
@@ -296,7 +297,6 @@ impl SemaphoreCaller {
     // Keeps the token of what is still owed.
     fn keep(&mut self, semaphore: &Semaphore<Unparked>, released: Released) -> Answer
         requires belongs { IsMine semaphore.now self.old.pass }
-        requires ample { ample_of semaphore.now.queue ≡ true }
         requires free { self.old.under ≡ None }
         requires owes { OwesJust (pass_view self.old.pass).facts (owed_after released) }
         requires waits { All (HasAt (pass_view self.old.pass)) self.old.waits.items }

@@ -2,8 +2,9 @@
 -- caller's, and leaves the caller as it was; or it was one call of the barrier, whose answer is
 -- told, and of whose contract those clauses hold that stand here. What it says of a pass that is
 -- alone, and of the cell that an arrival found, isn't among them.
-use Rattle.std.specs.Prelude.{◌≡◌, ◌≢◌, ◌⊎◌, ℕ, ◌≤◌, true, [], All, Option, Some, None, IsSome, Result, OnErr, IfOk, vec_len, vec_capacity}
+use Rattle.std.specs.Prelude.{◌≡◌, ◌≢◌, ◌⊎◌, ℕ, ◌≤◌, true, [], All, Option, Some, None, IsSome, Result, IsErrOf, IfOk, vec_len, vec_capacity}
 use Rattle.cqs_rule_laws.specs.declared.config.AcquireError.{AcquireError}
+use Rattle.cqs_rule_laws.specs.declared.config.AcquireError.TheVariants as refused
 use Rattle.cqs_rule_laws.specs.declared.view.View.{View}
 use Rattle.cqs_rule_laws.specs.Alone.{IsAlone}
 use Rattle.cqs_rule.specs.Passes.{pass_view}
@@ -17,7 +18,7 @@ use Rattle.cqs_barrier.specs.declared.answers.PartyLeft.{PartyLeft}
 use Rattle.cqs_barrier.specs.declared.answers.PartyPolled.{PartyPolled}
 use Rattle.cqs_barrier.specs.declared.answers.PartyWait.{PartyWait}
 use Rattle.cqs_barrier.specs.Answers.{IsPolled}
-use Rattle.cqs_barrier.specs.Arriving.{IsWorn, Arrives, Finishes}
+use Rattle.cqs_barrier.specs.Arriving.{IsWorn, IsCrowded, Arrives, Finishes}
 use Rattle.cqs_barrier.specs.Barrier.{barrier_object}
 use Rattle.cqs_barrier.specs.Calls.{CallRule}
 use Rattle.cqs_barrier.specs.Causes.{primitive_of}
@@ -65,7 +66,8 @@ module _ {T : Type 0} where
       : Type 0 where
     pub given : Result Arrived AcquireError
     pub told : a ≡ told_arrived given
-    pub worn : OnErr given (IsWorn v w)
+    pub worn : IsErrOf given refused.Worn → IsWorn v w
+    pub crowded : IsErrOf given refused.Crowded → IsCrowded v w
     pub arrived : IfOk given (λ x. Arrives v x w)
 
   -- a look at the wait of this number, which the pass had

@@ -1,9 +1,9 @@
 -- How a caller of a barrier stands between two calls.
-use Rattle.std.specs.Prelude.{◌≡◌, ◌≢◌, ℕ, ◌+◌, List, All, Option, Some, None, length, true}
+use Rattle.std.specs.Prelude.{◌≡◌, ◌≢◌, ℕ, ◌+◌, List, All, Option, Some, None, length}
 use Rattle.cqs_rule_laws.specs.declared.carries.Unparked.{Unparked}
 use Rattle.cqs_rule_laws.specs.declared.view.View.{View}
 use Rattle.cqs_rule_laws.specs.Lists.{Has}
-use Rattle.cqs_rule.specs.Passes.{ample_of, pass_view}
+use Rattle.cqs_rule.specs.Passes.{pass_view}
 use Rattle.cqs_barrier_object.specs.declared.entries.BarrierEntry.{BarrierEntry}
 use Rattle.cqs_barrier.specs.declared.answers.PartyWait.{PartyWait}
 use Rattle.cqs_barrier.specs.declared.barrier.Barrier.{Barrier}
@@ -43,7 +43,6 @@ AreEvery (Some (Leave leaving)) xs waits =
 -- has tokens of the waits of the pass, of each but for the one that is being left.
 pub record StandsAt (b : Barrier Unparked) (c : BarrierCaller) : Type 0 where
   pub belongs : IsMine b c.pass
-  pub ample : ample_of b.queue ≡ true
   pub owes : OwesJust (pass_view c.pass) c.owed
   pub waits : HasTokens wait_in (pass_view c.pass) c.waits.items
   pub apart : StayApart c.owed c.waits.items

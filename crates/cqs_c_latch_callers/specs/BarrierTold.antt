@@ -1,6 +1,7 @@
 -- What each answer tells, by what the barrier's own call answered.
 use Rattle.std.specs.Prelude.{Result, Ok, Err, pos}
 use Rattle.cqs_rule_laws.specs.declared.config.AcquireError.{AcquireError}
+use Rattle.cqs_rule_laws.specs.declared.config.AcquireError.TheVariants as refused
 use Rattle.cqs_rule.specs.Waits.{place_of}
 use Rattle.cqs_barrier.specs.declared.answers.Arrived.{Arrived}
 use Rattle.cqs_barrier.specs.declared.answers.Arrived.TheVariants as arrived
@@ -18,7 +19,8 @@ abbrev pub told_arrived : Result Arrived AcquireError → Answer
 told_arrived (Ok arrived.Last) = answer.Last
 told_arrived (Ok (arrived.LastOwing owing)) = answer.LastOwing (owing_reached owing)
 told_arrived (Ok (arrived.Later wait)) = answer.Later (place_of (wait_in wait)).index
-told_arrived (Err e) = answer.Worn
+told_arrived (Err refused.Worn) = answer.Worn
+told_arrived (Err refused.Crowded) = answer.Crowded
 
 abbrev pub told_polled : PartyPolled → Answer
 told_polled polled.Through = answer.Through

@@ -2,9 +2,11 @@
 -- caller's, and leaves the caller as it was; or it was one call of the latch, whose answer is told,
 -- and of whose contract those clauses hold that stand here. What it says of a pass that is alone
 -- isn't among them.
-use Rattle.std.specs.Prelude.{◌≡◌, ◌≢◌, ◌⊎◌, ℕ, ◌≤◌, true, [], All, None, IsSome, Result, vec_len, vec_capacity}
+use Rattle.std.specs.Prelude.{◌≡◌, ◌≢◌, ◌⊎◌, ℕ, ◌≤◌, true, [], All, None, IsSome, Result, IsErrOf, OnErr, IfOk, vec_len, vec_capacity}
 use Rattle.cqs_rule_laws.specs.declared.config.AcquireError.{AcquireError}
+use Rattle.cqs_rule_laws.specs.declared.config.AcquireError.TheVariants as refused
 use Rattle.cqs_rule_laws.specs.declared.config.CancelMode.{CancelMode}
+use Rattle.cqs_rule_laws.specs.declared.config.Crowded.{Crowded}
 use Rattle.cqs_rule.specs.declared.queue.tokens.Wait.{Wait}
 use Rattle.cqs_rule_laws.specs.declared.carries.Unparked.{Unparked}
 use Rattle.cqs_rule_laws.specs.declared.view.View.{View}
@@ -17,9 +19,9 @@ use Rattle.cqs_latch.specs.declared.answers.LatchPolled.{LatchPolled}
 use Rattle.cqs_latch.specs.declared.answers.LatchWait.{LatchWait}
 use Rattle.cqs_latch.specs.declared.answers.Owed.{Owed}
 use Rattle.cqs_latch.specs.declared.latch.Latch.{Latch}
-use Rattle.cqs_latch.specs.Answers.{IsPolled, HasWaited as Waited}
+use Rattle.cqs_latch.specs.Answers.{IsCrowded, IsPolled, HasWaited as Waited}
 use Rattle.cqs_latch.specs.Calls.{CallRule}
-use Rattle.cqs_latch.specs.CountAnswers.{HasCounted as Counted, HasFinished as Finished}
+use Rattle.cqs_latch.specs.CountAnswers.{HasCounted as Counted, HasFinished as Finished, IsRefused}
 use Rattle.cqs_latch.specs.Entries.{polled_entries}
 use Rattle.cqs_latch.specs.LatchMade.{mode_of}
 use Rattle.cqs_latch.specs.LeftAnswers.{HasLeft}
@@ -30,7 +32,7 @@ use Rattle.cqs_c_callers.specs.declared.answers.Answer.TheVariants as answer
 use Rattle.cqs_c_latch_callers.specs.declared.latch_caller.LatchCaller.{LatchCaller}
 use Rattle.cqs_c_callers.specs.declared.verb.Verb.{Verb}
 use Rattle.cqs_c_callers.specs.declared.verb.Verb.TheVariants as verb
-use Rattle.cqs_c_latch_callers.specs.LatchTold.{told_waited, told_polled, told_left, told_counted, told_finished}
+use Rattle.cqs_c_latch_callers.specs.LatchTold.{told_waited, told_polled, told_left, told_down, told_finished}
 
 -- why a call is refused
 abbrev pub RefusesOwing : LatchCaller → Answer → Type 0
@@ -68,6 +70,7 @@ module _ {T : Type 0} where
     pub given : Result LatchWait AcquireError
     pub told : a ≡ told_waited given
     pub waited : Waited v given w
+    pub crowded : IsErrOf given refused.Crowded → IsCrowded v w
 
   -- a look at the wait of this number, which the pass had
   pub record HasPolled (n : ℕ) (v : View LatchEntry T) (a : Answer) (w : View LatchEntry T)
@@ -93,9 +96,10 @@ module _ {T : Type 0} where
   -- a count down
   pub record HasCounted (v : View LatchEntry T) (a : Answer) (w : View LatchEntry T)
       : Type 0 where
-    pub given : Down
-    pub told : a ≡ told_counted given
-    pub counted : Counted v given w
+    pub given : Result Down Crowded
+    pub told : a ≡ told_down given
+    pub crowded : OnErr given (IsRefused v w)
+    pub counted : IfOk given (λ x. Counted v x w)
 
   -- the resumptions went on that were owed
   pub record HasFinished (v : View LatchEntry T) (a : Answer) (w : View LatchEntry T)

@@ -1,8 +1,8 @@
 -- How a caller of a latch stands between two calls.
-use Rattle.std.specs.Prelude.{◌≡◌, Option, Some, None, length, true}
+use Rattle.std.specs.Prelude.{◌≡◌, Option, Some, None, length}
 use Rattle.cqs_rule_laws.specs.declared.carries.Unparked.{Unparked}
 use Rattle.cqs_rule_laws.specs.declared.view.Facts.{Facts}
-use Rattle.cqs_rule.specs.Passes.{ample_of, pass_view}
+use Rattle.cqs_rule.specs.Passes.{pass_view}
 use Rattle.cqs_latch.specs.declared.answers.Owed.{Owed}
 use Rattle.cqs_latch.specs.declared.latch.Latch.{Latch}
 use Rattle.cqs_rule_laws.specs.CallRule.{IsReady}
@@ -20,7 +20,6 @@ OwesJust f (Some owed) = HasOwed f owed
 -- tokens of waits of the pass, as many as it has.
 pub record StandsAt (l : Latch Unparked) (c : LatchCaller) : Type 0 where
   pub belongs : IsMine l c.pass
-  pub ample : ample_of l.queue ≡ true
   pub owes : OwesJust (pass_view c.pass).facts c.owed
   pub waits : HasTokens (λ wait. wait) (pass_view c.pass) c.waits.items
   pub every : length c.waits.items ≡ length (pass_view c.pass).facts.waits

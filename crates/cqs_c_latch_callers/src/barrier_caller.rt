@@ -48,7 +48,6 @@ impl BarrierCaller {
         room: Vec<PartyWait>,
     ) -> BarrierCaller
         requires belongs { IsMine barrier.now pass }
-        requires ample { ample_of barrier.now.queue ≡ true }
         requires ready { IsReady (pass_view pass).facts }
         requires waits_for_nothing { (pass_view pass).facts.waits ≡ [] }
         requires empty { room.items ≡ [] }
@@ -91,6 +90,7 @@ impl BarrierCaller {
             → vec_len self.old.waits < vec_capacity self.old.waits
             → (pass_view self.old.pass).facts.has.held ≡ 0
             → (result ≡ answer.NoParty) × (self.new ≡ self.old) }
+        ensures never_crowded { ample_of barrier.now.queue ≡ true → result ≢ answer.Crowded }
         ensures answered { IsAnswered verbs.Enter 0 self.old result self.new }
     {
         if self.owed.is_some() {
@@ -115,7 +115,7 @@ impl BarrierCaller {
                 Answer::Later(number)
             }
             Err(AcquireError::Worn) => Answer::Worn,
-            Err(AcquireError::Crowded) => unreachable!(),
+            Err(AcquireError::Crowded) => Answer::Crowded,
         }
     }
 
@@ -261,7 +261,6 @@ impl BarrierCaller {
     // Goes on with the resumptions that the last party owes.
     fn resume(&mut self, barrier: &Barrier<Unparked>, owing: Owing) -> Answer
         requires belongs { IsMine barrier.now self.old.pass }
-        requires ample { ample_of barrier.now.queue ≡ true }
         requires free { self.old.owed ≡ None }
         requires owes { HasOwing (pass_view self.old.pass).facts owing }
         requires waits { HasTokens wait_in (pass_view self.old.pass) self.old.waits.items }
@@ -283,7 +282,6 @@ impl BarrierCaller {
     // Goes on with a leaving.
     fn leave(&mut self, barrier: &Barrier<Unparked>, leaving: Leaving) -> Answer
         requires belongs { IsMine barrier.now self.old.pass }
-        requires ample { ample_of barrier.now.queue ≡ true }
         requires free { self.old.owed ≡ None }
         requires owes { HasLeaving (pass_view self.old.pass) leaving }
         requires waits { HasTokens wait_in (pass_view self.old.pass) self.old.waits.items }

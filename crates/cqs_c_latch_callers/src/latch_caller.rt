@@ -27,7 +27,6 @@ impl LatchCaller {
     /// The caller of a pass that has done nothing yet, with room for its waits.
     pub fn new(latch: &Latch<Unparked>, pass: LatchPass<Unparked>, room: Vec<Wait>) -> LatchCaller
         requires belongs { IsMine latch.now pass }
-        requires ample { ample_of latch.now.queue ≡ true }
         requires ready { IsReady (pass_view pass).facts }
         requires waits_for_nothing { (pass_view pass).facts.waits ≡ [] }
         requires empty { room.items ≡ [] }
@@ -67,6 +66,7 @@ impl LatchCaller {
         ensures owes { IsSome self.old.owed → (result ≡ answer.Owes) × (self.new ≡ self.old) }
         ensures full { self.old.owed ≡ None → vec_capacity self.old.waits ≤ vec_len self.old.waits
             → (result ≡ answer.Full) × (self.new ≡ self.old) }
+        ensures never_crowded { ample_of latch.now.queue ≡ true → result ≢ answer.Crowded }
         ensures answered { IsAnswered latch.now verbs.Enter 0 self.old result self.new }
     {
         if self.owed.is_some() {
@@ -83,7 +83,7 @@ impl LatchCaller {
                 Answer::Later(number)
             }
             Err(AcquireError::Worn) => Answer::Worn,
-            Err(AcquireError::Crowded) => unreachable!(),
+            Err(AcquireError::Crowded) => Answer::Crowded,
         }
     }
 
@@ -144,6 +144,7 @@ impl LatchCaller {
         requires stands { StandsAt latch.now self.old }
         ensures stands { StandsAt latch.now self.new }
         ensures owes { IsSome self.old.owed → (result ≡ answer.Owes) × (self.new ≡ self.old) }
+        ensures never_crowded { ample_of latch.now.queue ≡ true → result ≢ answer.Crowded }
         ensures answered { IsAnswered latch.now verbs.Leave 0 self.old result self.new }
     {
         if self.owed.is_some() {
@@ -158,7 +159,7 @@ impl LatchCaller {
                 Answer::LastOwing(reached)
             }
             Ok(Down::Already) => Answer::Already,
-            Err(_) => unreachable!(),
+            Err(_) => Answer::Crowded,
         }
     }
 

@@ -1,6 +1,7 @@
 -- Whatever a call of a barrier answers, its pass has the number that it had.
-use Rattle.std.proofs.Common.{◌≡◌, ℕ, ap, inl, inr, Some, None, Option, Result, Ok, Err, OnErr, IfOk}
+use Rattle.std.proofs.Common.{◌≡◌, ℕ, ap, refl, inl, inr, Some, None, Option, Result, Ok, Err, IsErrOf, IfOk}
 use Rattle.cqs_rule_laws.specs.declared.config.AcquireError.{AcquireError}
+use Rattle.cqs_rule_laws.specs.declared.config.AcquireError.TheVariants as refused
 use Rattle.cqs_rule_laws.specs.declared.view.View.{View}
 use Rattle.cqs_rule.specs.Passes.{pass_view}
 use Rattle.cqs_barrier_object.specs.declared.entries.BarrierEntry.{BarrierEntry}
@@ -9,7 +10,7 @@ use Rattle.cqs_barrier.specs.declared.answers.Arrived.TheVariants.{Last, LastOwi
 use Rattle.cqs_barrier.specs.declared.answers.Owing.{Owing}
 use Rattle.cqs_barrier.specs.declared.answers.PartyLeft.{PartyLeft}
 use Rattle.cqs_barrier.specs.declared.answers.PartyLeft.TheVariants.{Withdrawn, TooLate, Contended}
-use Rattle.cqs_barrier.specs.Arriving.{Arrives, IsWorn, Finishes}
+use Rattle.cqs_barrier.specs.Arriving.{Arrives, IsWorn, IsCrowded, Finishes}
 use Rattle.cqs_barrier.specs.Leaving.{HasLeft}
 use Rattle.cqs_c_callers.specs.declared.answers.Answer.{Answer}
 use Rattle.cqs_c_latch_callers.specs.declared.barrier_caller.BarrierCaller.{BarrierCaller}
@@ -31,12 +32,14 @@ module _ {T : Type 0} where
   of-resumed x y (Ok done) h = h.2.called.called.same.number
   of-resumed x y (Err owing) h = h.1.called.called.same.number
 
-  of-arrived : (x y : View BarrierEntry T) (given : Result Arrived AcquireError) → OnErr given (IsWorn x y)
+  of-arrived : (x y : View BarrierEntry T) (given : Result Arrived AcquireError)
+      → (IsErrOf given refused.Worn → IsWorn x y) → (IsErrOf given refused.Crowded → IsCrowded x y)
       → IfOk given (λ arrived. Arrives x arrived y) → y.number ≡ x.number
-  of-arrived x y (Err e) worn h = worn.called.called.same.number
-  of-arrived x y (Ok Last) worn h = (through-waits x y h).0.number
-  of-arrived x y (Ok (LastOwing owing)) worn h = h.1.called.called.same.number
-  of-arrived x y (Ok (Later wait)) worn h = h.0.called.called.same.number
+  of-arrived x y (Err refused.Worn) worn crowded h = (worn refl).called.called.same.number
+  of-arrived x y (Err refused.Crowded) worn crowded h = (crowded refl).called.called.same.number
+  of-arrived x y (Ok Last) worn crowded h = (through-waits x y h).0.number
+  of-arrived x y (Ok (LastOwing owing)) worn crowded h = h.1.called.called.same.number
+  of-arrived x y (Ok (Later wait)) worn crowded h = h.0.called.called.same.number
 
   of-finished : (owed : Option PartyOwes) (x y : View BarrierEntry T) (a : Answer)
       → HasFinished owed x a y → y.number ≡ x.number
@@ -46,7 +49,7 @@ module _ {T : Type 0} where
 
   of-barrier : (owed : Option PartyOwes) (v : Verb) (n : ℕ) (x y : View BarrierEntry T) (a : Answer)
       → Makes owed v n x a y → y.number ≡ x.number
-  of-barrier owed verb.Enter n x y a m = of-arrived x y m.given m.worn m.arrived
+  of-barrier owed verb.Enter n x y a m = of-arrived x y m.given m.worn m.crowded m.arrived
   of-barrier owed verb.Try n x y a m = absurd m
   of-barrier owed verb.Poll n x y a m = m.called.called.same.number
   of-barrier owed verb.Cancel n x y a m = of-left _ x y m.given m.left

@@ -1,9 +1,12 @@
 -- Whatever a call of a semaphore, pool or latch answers, its pass has the number that it had.
-use Rattle.std.proofs.Common.{◌≡◌, ℕ, ap, inl, inr}
+use Rattle.std.proofs.Common.{◌≡◌, ℕ, ap, inl, inr, Result, Ok, Err, OnErr, IfOk}
 use Rattle.cqs_rule_laws.specs.declared.config.CancelMode.{CancelMode}
+use Rattle.cqs_rule_laws.specs.declared.config.Crowded.{Crowded}
 use Rattle.cqs_rule_laws.specs.declared.carries.Unparked.{Unparked}
 use Rattle.cqs_rule.specs.Passes.{pass_view}
+use Rattle.cqs_latch.specs.declared.answers.Down.{Down}
 use Rattle.cqs_latch.specs.declared.latch.Latch.{Latch}
+use Rattle.cqs_latch.specs.CountAnswers.{HasCounted, IsRefused}
 use Rattle.cqs_c_callers.specs.declared.answers.Answer.{Answer}
 use Rattle.cqs_c_callers.specs.declared.pool_caller.PoolCaller.{PoolCaller}
 use Rattle.cqs_c_callers.specs.declared.semaphore_caller.SemaphoreCaller.{SemaphoreCaller}
@@ -38,6 +41,13 @@ of-pool verb.Finish n c d a m = m.called.called.same.number
 of-pool verb.State n c d a m = absurd m
 of-pool verb.Sole n c d a m = m.looked.saw.same.number
 
+of-counted : (c d : LatchCaller) (given : Result Down Crowded)
+    → OnErr given (IsRefused (pass_view c.pass) (pass_view d.pass))
+    → IfOk given (λ down. HasCounted (pass_view c.pass) down (pass_view d.pass))
+    → (pass_view d.pass).number ≡ (pass_view c.pass).number
+of-counted c d (Ok down) crowded counted = counted.1.called.same.number
+of-counted c d (Err e) crowded counted = crowded.called.called.same.number
+
 of-latch : (mode : CancelMode) (v : Verb) (n : ℕ) (c d : LatchCaller) (a : Answer)
     → latch.Makes mode v n (pass_view c.pass) a (pass_view d.pass)
     → (pass_view d.pass).number ≡ (pass_view c.pass).number
@@ -45,7 +55,7 @@ of-latch mode verb.Enter n c d a m = m.waited.1.called.same.number
 of-latch mode verb.Try n c d a m = absurd m
 of-latch mode verb.Poll n c d a m = m.called.called.same.number
 of-latch mode verb.Cancel n c d a m = m.left.1.called.same.number
-of-latch mode verb.Leave n c d a m = m.counted.1.called.same.number
+of-latch mode verb.Leave n c d a m = of-counted c d m.given m.crowded m.counted
 of-latch mode verb.Finish n c d a m = m.finished.1.called.same.number
 of-latch mode verb.State n c d a m = absurd m
 of-latch mode verb.Sole n c d a m = m.looked.saw.same.number

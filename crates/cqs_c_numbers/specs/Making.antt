@@ -62,8 +62,15 @@ IsNew held waits elements (caller.Barrier c) =
     ((pass_view c.pass).seen ≡ []) × ((pass_view c.pass).facts.has.held ≡ held)
     × (c.waits.items ≡ []) × (vec_capacity c.waits ≡ waits)
 
--- The primitive has as many passes and waits as it was configured for, and as many numbers of
--- passes. Its first pass lies under the number 0.
+-- for how many segments of cells there is room, as the caller's pass has it
+abbrev pub slots_at : Caller → ℕ
+slots_at (caller.Semaphore c) = (pass_view c.pass).slots
+slots_at (caller.Pool c) = (pass_view c.pass).slots
+slots_at (caller.Latch c) = (pass_view c.pass).slots
+slots_at (caller.Barrier c) = (pass_view c.pass).slots
+
+-- The primitive has as many passes, waits and slots as it was configured for, and as many numbers
+-- of passes. Its first pass lies under the number 0.
 pub record IsOpen (config : Config) (held waits elements : ℕ) (n : Numbered) : Type 0 where
   pub passes : passes_in (primitive_in n) ≡ config.passes
   pub limit : limit_in (primitive_in n) ≡ config.limit
@@ -72,6 +79,7 @@ pub record IsOpen (config : Config) (held waits elements : ℕ) (n : Numbered) :
   pub first : Caller
   pub stands : StandsAs (primitive_in n) 0 first
   pub new : IsNew held waits elements first
+  pub slots : slots_at first ≡ config.slots
   pub laid : IsLaid n 0 0 (Some first)
 
 -- the table of this primitive is open, with this caller in it

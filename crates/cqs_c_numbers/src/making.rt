@@ -2,7 +2,7 @@
 
 ghost use Rattle.std.specs.Prelude.{◌≡◌, ◌⊎◌, ◌<◌, ◌≤◌, ◌+◌, ◌*◌, ◌/◌, false, IfErr, IfOk, IsErrOf, replicate};
 ghost use mathlib.Core.Logic.{◌↔◌};
-ghost use Rattle.cqs_rule_laws.specs.Configured.{is_small_config};
+ghost use Rattle.cqs_rule_laws.specs.Configured.{is_config};
 ghost use Rattle.cqs_c_numbers.specs.Callers.{StandsAt};
 ghost use Rattle.cqs_c_numbers.specs.Making.{HasOpened, IsBarrierOf, IsLatchOf, IsOpen, IsPoolOf, IsSemaphoreOf};
 ghost use Rattle.cqs_c_numbers.specs.Numbered.{primitive_in};
@@ -54,12 +54,12 @@ impl Numbered {
         waits: u32,
     ) -> Result<Numbered, MakeError>
         ensures bad_config { IsErrOf result MakeError.BadConfig
-            ↔ ((permits ≡ 0) ⊎ (1048576 < permits) ⊎ (is_small_config config ≡ false)
+            ↔ ((permits ≡ 0) ⊎ (1048576 < permits) ⊎ (is_config config ≡ false)
             ⊎ (1048576 < waits)) }
         ensures made { IfOk result (λ made. IsSemaphoreOf permits (primitive_in made)) }
         ensures open { IfOk result (IsOpen config 0 waits 0) }
     {
-        if waits > MOST_WAITS || !config.is_small() {
+        if waits > MOST_WAITS || !config.is_in_range() {
             return Err(MakeError::BadConfig);
         }
         let (semaphore, pass) = Semaphore::unparked(alloc, permits, config)?;
@@ -81,11 +81,11 @@ impl Numbered {
         ensures bad_config { IsErrOf result MakeError.BadConfig
             ↔ ((size ≡ 0) ⊎ (4096 < size)
             ⊎ (config.slots < 2 * config.passes + 2 + size / 32 + 1)
-            ⊎ (is_small_config config ≡ false) ⊎ (1048576 < waits)) }
+            ⊎ (is_config config ≡ false) ⊎ (1048576 < waits)) }
         ensures made { IfOk result (λ made. IsPoolOf size (primitive_in made)) }
         ensures open { IfOk result (IsOpen config 0 waits (size + 1)) }
     {
-        if waits > MOST_WAITS || !config.is_small() {
+        if waits > MOST_WAITS || !config.is_in_range() {
             return Err(MakeError::BadConfig);
         }
         let (pool, pass) = Pool::unparked(alloc, size, config)?;
@@ -106,11 +106,12 @@ impl Numbered {
         waits: u32,
     ) -> Result<Numbered, MakeError>
         ensures bad_config { IsErrOf result MakeError.BadConfig
-            ↔ ((1048576 < count) ⊎ (is_small_config config ≡ false) ⊎ (1048576 < waits)) }
+            ↔ ((1048576 < count) ⊎ (4294967232 < config.limit) ⊎ (is_config config ≡ false)
+            ⊎ (1048576 < waits)) }
         ensures made { IfOk result (λ made. IsLatchOf count mode (primitive_in made)) }
         ensures open { IfOk result (IsOpen config 0 waits 0) }
     {
-        if waits > MOST_WAITS || !config.is_small() {
+        if waits > MOST_WAITS || !config.is_in_range() {
             return Err(MakeError::BadConfig);
         }
         let (latch, pass) = Latch::unparked(alloc, count, mode, config)?;
@@ -129,12 +130,12 @@ impl Numbered {
         waits: u32,
     ) -> Result<Numbered, MakeError>
         ensures bad_config { IsErrOf result MakeError.BadConfig
-            ↔ ((parties ≡ 0) ⊎ (32 < parties) ⊎ (is_small_config config ≡ false)
+            ↔ ((parties ≡ 0) ⊎ (32 < parties) ⊎ (is_config config ≡ false)
             ⊎ (1048576 < waits)) }
         ensures made { IfOk result (λ made. IsBarrierOf parties (primitive_in made)) }
         ensures open { IfOk result (IsOpen config parties waits 0) }
     {
-        if waits > MOST_WAITS || !config.is_small() {
+        if waits > MOST_WAITS || !config.is_in_range() {
             return Err(MakeError::BadConfig);
         }
         let (barrier, pass) = Barrier::unparked(alloc, parties, config)?;

@@ -4,6 +4,7 @@ use crate::errors::{MakeError, expect_in};
 use crate::ffi;
 use crate::pass::PassError;
 use crate::pass::shared::Shared;
+use crate::primitive::MOST_LIMIT;
 use std::error::Error;
 use std::fmt;
 use std::mem::ManuallyDrop;
@@ -15,14 +16,14 @@ use std::sync::Arc;
 pub struct BarrierConfig {
     /// How many parties there are, from 1 to 31.
     pub parties: u32,
-    /// How many waits may be drawn in all, from 1 to 1,048,576.
+    /// How many waits may be drawn in all, from 1 to 68,719,476,736.
     pub limit: u64,
 }
 
 impl Default for BarrierConfig {
     /// Two parties, and as many waits as there may be.
     fn default() -> BarrierConfig {
-        BarrierConfig { parties: 2, limit: 1_048_576 }
+        BarrierConfig { parties: 2, limit: MOST_LIMIT }
     }
 }
 
@@ -50,6 +51,9 @@ pub enum ArriveError {
     Worn,
     /// The party went through before.
     Over,
+    /// There is no room for its wait: parties that came far apart wait, with many in between that
+    /// withdrew. The party hasn't arrived, and may try again.
+    Crowded,
 }
 
 impl fmt::Display for ArriveError {
@@ -57,6 +61,7 @@ impl fmt::Display for ArriveError {
         match self {
             ArriveError::Worn => write!(f, "as many waits were drawn as the barrier was made for"),
             ArriveError::Over => write!(f, "the party went through before"),
+            ArriveError::Crowded => write!(f, "there is no room for the party's wait"),
         }
     }
 }
@@ -146,6 +151,7 @@ impl Party {
                 Ok(Arrival::Later(PartyWait { party: self, number }))
             }
             ffi::WORN => Err(ArriveError::Worn),
+            ffi::CROWDED => Err(ArriveError::Crowded),
             other => unreachable!("an arrival was answered {other}"),
         }
     }

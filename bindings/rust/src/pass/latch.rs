@@ -1,9 +1,10 @@
 //! A count-down latch.
 
-use crate::errors::{MakeError, Worn, expect_in};
+use crate::errors::{MakeError, WaitError, expect_in};
 use crate::ffi;
 use crate::pass::PassError;
 use crate::pass::shared::Shared;
+use crate::primitive::MOST_LATCH_LIMIT;
 use std::mem::ManuallyDrop;
 use std::ptr;
 use std::sync::Arc;
@@ -26,14 +27,14 @@ pub struct LatchConfig {
     pub mode: LatchMode,
     /// How many passes there may be at once, from 1 to 31.
     pub passes: u32,
-    /// How many waits may be drawn in all, from 1 to 1,048,576.
+    /// How many waits may be drawn in all, from 1 to 4,294,967,232.
     pub limit: u64,
 }
 
 impl Default for LatchConfig {
     /// One count, the smart mode, and as many passes and waits as there may be.
     fn default() -> LatchConfig {
-        LatchConfig { count: 1, mode: LatchMode::Smart, passes: 31, limit: 1_048_576 }
+        LatchConfig { count: 1, mode: LatchMode::Smart, passes: 31, limit: MOST_LATCH_LIMIT }
     }
 }
 
@@ -92,6 +93,9 @@ pub enum Down {
     Last,
     /// The count was used up before.
     Already,
+    /// Nothing was counted: there is no slot to wake others with. A later try may succeed, once some
+    /// have stopped waiting.
+    Crowded,
 }
 
 /// What became of a wait.
@@ -125,12 +129,13 @@ impl LatchPass {
                 Down::Last
             }
             ffi::ALREADY => Down::Already,
+            ffi::CROWDED => Down::Crowded,
             other => unreachable!("a count down was answered {other}"),
         }
     }
 
     /// Passes where the count is used up, and else waits in line.
-    pub fn wait(&mut self) -> Result<Entered<'_>, Worn> {
+    pub fn wait(&mut self) -> Result<Entered<'_>, WaitError> {
         self.end_forgotten();
         let answer = self.shared.call(ffi::DO_ENTER, self.number, 0);
         match answer.answer {
@@ -140,13 +145,14 @@ impl LatchPass {
                 self.wait = Some(number);
                 Ok(Entered::Later(LatchWait { pass: self, number }))
             }
-            ffi::WORN => Err(Worn),
+            ffi::WORN => Err(WaitError::Worn),
+            ffi::CROWDED => Err(WaitError::Crowded),
             other => unreachable!("a wait was answered {other}"),
         }
     }
 
     /// Waits until the latch is open, and lets other threads run between two looks.
-    pub fn wait_yielding(&mut self) -> Result<(), Worn> {
+    pub fn wait_yielding(&mut self) -> Result<(), WaitError> {
         let Entered::Later(mut wait) = self.wait()? else { return Ok(()) };
         while let Err(again) = wait.poll() {
             wait = again;

@@ -1,9 +1,10 @@
 //! A mutex around a value: one permit of a semaphore, and the value, which its guard lends.
 
-use crate::errors::{MakeError, Worn};
+use crate::errors::{MakeError, WaitError};
 use crate::ffi;
 use crate::pass::shared::Shared;
 use crate::pass::{PassError, TryError};
+use crate::primitive::MOST_LIMIT;
 use std::cell::UnsafeCell;
 use std::fmt;
 use std::marker::PhantomData;
@@ -17,14 +18,14 @@ use std::sync::Arc;
 pub struct MutexConfig {
     /// How many passes there may be at once, from 1 to 31.
     pub passes: u32,
-    /// How many waits may be drawn in all, from 1 to 1,048,576.
+    /// How many waits may be drawn in all, from 1 to 68,719,476,736.
     pub limit: u64,
 }
 
 impl Default for MutexConfig {
     /// As many passes and waits as there may be.
     fn default() -> MutexConfig {
-        MutexConfig { passes: 31, limit: 1_048_576 }
+        MutexConfig { passes: 31, limit: MOST_LIMIT }
     }
 }
 
@@ -116,8 +117,12 @@ impl<T> MutexPass<T> {
     }
 
     /// The mutex where it is free, or else a wait for it.
-    pub fn lock(&mut self) -> Result<Locked<'_, T>, Worn> {
+    pub fn lock(&mut self) -> Result<Locked<'_, T>, WaitError> {
         self.end_forgotten();
+        if let Has::Mutex = self.has {
+            // It couldn't be given back, so no slot is free to wait in.
+            return Err(WaitError::Crowded);
+        }
         let answer = self.call(ffi::DO_ENTER, 0);
         match answer.answer {
             ffi::NOW => Ok(Locked::Now(MutexGuard::of(self))),
@@ -126,7 +131,8 @@ impl<T> MutexPass<T> {
                 self.has = Has::Wait(number);
                 Ok(Locked::Later(LockWait { pass: self, number }))
             }
-            ffi::WORN => Err(Worn),
+            ffi::WORN => Err(WaitError::Worn),
+            ffi::CROWDED => Err(WaitError::Crowded),
             other => unreachable!("a lock was answered {other}"),
         }
     }
@@ -134,6 +140,9 @@ impl<T> MutexPass<T> {
     /// The mutex where it is free. It never waits.
     pub fn try_lock(&mut self) -> Result<MutexGuard<'_, T>, TryError> {
         self.end_forgotten();
+        if let Has::Mutex = self.has {
+            return Err(TryError::NoneFree);
+        }
         let answer = self.call(ffi::DO_TRY, 0);
         match answer.answer {
             ffi::GOT => Ok(MutexGuard::of(self)),
@@ -144,7 +153,7 @@ impl<T> MutexPass<T> {
     }
 
     /// Locks, and lets other threads run between two looks at its wait.
-    pub fn lock_yielding(&mut self) -> Result<MutexGuard<'_, T>, Worn> {
+    pub fn lock_yielding(&mut self) -> Result<MutexGuard<'_, T>, WaitError> {
         match self.lock()? {
             Locked::Now(guard) => Ok(guard),
             Locked::Later(mut wait) => loop {
@@ -195,13 +204,11 @@ impl<T> MutexPass<T> {
         }
     }
 
-    /// Gives the mutex back.
+    /// Gives the mutex back. Where there is no slot for that, it is done by the next call with this
+    /// pass, or once nobody has the pass.
     fn unlock(&mut self) {
-        self.has = Has::Nothing;
-        let answer = self.call(ffi::DO_LEAVE, 0).answer;
-        assert_ne!(answer, ffi::NO_PERMIT);
-        if answer == ffi::UNDER {
-            self.held.shared.finish_all(self.number);
+        if self.held.shared.leave(self.number, 0) {
+            self.has = Has::Nothing;
         }
     }
 }
@@ -209,7 +216,7 @@ impl<T> MutexPass<T> {
 impl<T> Drop for MutexPass<T> {
     fn drop(&mut self) {
         self.end_forgotten();
-        self.held.shared.put_idle(self.number);
+        self.held.shared.give_up(self.number, matches!(self.has, Has::Mutex).then_some(0));
     }
 }
 

@@ -1,6 +1,6 @@
 //! A pass of a semaphore, and the permit that it has.
 
-use crate::errors::Worn;
+use crate::errors::WaitError;
 use crate::ffi;
 use crate::pass::shared::Shared;
 use crate::pass::{TryError, Wait};
@@ -99,8 +99,12 @@ impl SemaphorePass {
     }
 
     /// A permit where one is free, or else a wait for one.
-    pub fn acquire(&mut self) -> Result<Acquired<'_>, Worn> {
+    pub fn acquire(&mut self) -> Result<Acquired<'_>, WaitError> {
         self.end_forgotten();
+        if let Has::Permit = self.has {
+            // Its own permit couldn't be given back, so no slot is free to wait in.
+            return Err(WaitError::Crowded);
+        }
         let answer = self.shared.call(ffi::DO_ENTER, self.number, 0);
         match answer.answer {
             ffi::NOW => {
@@ -112,7 +116,8 @@ impl SemaphorePass {
                 self.has = Has::Wait(number);
                 Ok(Acquired::Later(Wait::of(self, number)))
             }
-            ffi::WORN => Err(Worn),
+            ffi::WORN => Err(WaitError::Worn),
+            ffi::CROWDED => Err(WaitError::Crowded),
             other => unreachable!("an acquire was answered {other}"),
         }
     }
@@ -120,6 +125,9 @@ impl SemaphorePass {
     /// A permit where one is free. It never waits.
     pub fn try_acquire(&mut self) -> Result<Permit<'_>, TryError> {
         self.end_forgotten();
+        if let Has::Permit = self.has {
+            return Err(TryError::NoneFree);
+        }
         let answer = self.shared.call(ffi::DO_TRY, self.number, 0);
         match answer.answer {
             ffi::GOT => {
@@ -133,7 +141,7 @@ impl SemaphorePass {
     }
 
     /// Acquires, and lets other threads run between two looks at its wait.
-    pub fn acquire_yielding(&mut self) -> Result<Permit<'_>, Worn> {
+    pub fn acquire_yielding(&mut self) -> Result<Permit<'_>, WaitError> {
         match self.acquire()? {
             Acquired::Now(permit) => Ok(permit),
             Acquired::Later(mut wait) => loop {
@@ -156,12 +164,11 @@ impl SemaphorePass {
         answer.number
     }
 
+    /// Gives its permit back. Where there is no slot for that, it is done by the next call with this
+    /// pass, or once nobody has the pass.
     fn release(&mut self) {
-        self.has = Has::Nothing;
-        let answer = self.shared.call(ffi::DO_LEAVE, self.number, 0);
-        assert_ne!(answer.answer, ffi::NO_PERMIT);
-        if answer.answer == ffi::UNDER {
-            self.shared.finish_all(self.number);
+        if self.shared.leave(self.number, 0) {
+            self.has = Has::Nothing;
         }
     }
 }
@@ -190,6 +197,6 @@ impl Drop for Permit<'_> {
 impl Drop for SemaphorePass {
     fn drop(&mut self) {
         self.end_forgotten();
-        self.shared.put_idle(self.number);
+        self.shared.give_up(self.number, matches!(self.has, Has::Permit).then_some(0));
     }
 }

@@ -1,9 +1,10 @@
 //! A pool of values: who takes one has it until it is put back.
 
-use crate::errors::{MakeError, Worn, expect_in};
+use crate::errors::{MakeError, WaitError, expect_in};
 use crate::ffi;
 use crate::pass::PassError;
 use crate::pass::shared::Shared;
+use crate::primitive::MOST_LIMIT;
 use std::cell::UnsafeCell;
 use std::fmt;
 use std::marker::PhantomData;
@@ -17,14 +18,14 @@ use std::sync::Arc;
 pub struct PoolConfig {
     /// How many passes there may be at once, from 1 to 31.
     pub passes: u32,
-    /// How many takes there may be in all, from 1 to 1,048,576.
+    /// How many takes there may be in all, from 1 to 68,719,476,736.
     pub limit: u64,
 }
 
 impl Default for PoolConfig {
     /// As many passes and takes as there may be.
     fn default() -> PoolConfig {
-        PoolConfig { passes: 31, limit: 1_048_576 }
+        PoolConfig { passes: 31, limit: MOST_LIMIT }
     }
 }
 
@@ -118,8 +119,12 @@ impl<T> PoolPass<T> {
     }
 
     /// A value where one is free, or else a wait for one.
-    pub fn take(&mut self) -> Result<Taken<'_, T>, Worn> {
+    pub fn take(&mut self) -> Result<Taken<'_, T>, WaitError> {
         self.end_forgotten();
+        if self.element.is_some() {
+            // It couldn't be put back, so no slot is free to wait in.
+            return Err(WaitError::Crowded);
+        }
         let answer = self.call(ffi::DO_ENTER, 0);
         match answer.answer {
             ffi::TOOK => Ok(Taken::Now(Item::of(self, answer.number as u32))),
@@ -128,13 +133,14 @@ impl<T> PoolPass<T> {
                 self.wait = Some(number);
                 Ok(Taken::Later(TakeWait { pass: self, number }))
             }
-            ffi::WORN => Err(Worn),
+            ffi::WORN => Err(WaitError::Worn),
+            ffi::CROWDED => Err(WaitError::Crowded),
             other => unreachable!("a take was answered {other}"),
         }
     }
 
     /// Takes, and lets other threads run between two looks at its wait.
-    pub fn take_yielding(&mut self) -> Result<Item<'_, T>, Worn> {
+    pub fn take_yielding(&mut self) -> Result<Item<'_, T>, WaitError> {
         match self.take()? {
             Taken::Now(item) => Ok(item),
             Taken::Later(mut wait) => loop {
@@ -164,14 +170,11 @@ impl<T> PoolPass<T> {
         }
     }
 
-    /// Puts the element that it has back.
+    /// Puts the element that it has back. Where there is no slot for that, it is done by the next call
+    /// with this pass, or once nobody has the pass.
     fn put(&mut self, element: u32) {
-        self.element = None;
-        match self.call(ffi::DO_LEAVE, element.into()).answer {
-            ffi::SENT | ffi::LEFT => {}
-            ffi::UNDER => self.held.shared.finish_all(self.number),
-            other => unreachable!("a put was answered {other}"),
-        }
+        let is_put = self.held.shared.leave(self.number, element);
+        self.element = (!is_put).then_some(element);
     }
 
     /// What was forgotten, by `mem::forget`, is ended.
@@ -188,7 +191,7 @@ impl<T> PoolPass<T> {
 impl<T> Drop for PoolPass<T> {
     fn drop(&mut self) {
         self.end_forgotten();
-        self.held.shared.put_idle(self.number);
+        self.held.shared.give_up(self.number, self.element);
     }
 }
 

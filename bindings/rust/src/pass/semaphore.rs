@@ -4,6 +4,7 @@ use crate::errors::{MakeError, expect_in};
 use crate::ffi;
 use crate::pass::shared::Shared;
 use crate::pass::{PassError, SemaphorePass};
+use crate::primitive::MOST_LIMIT;
 use std::sync::Arc;
 
 /// How a semaphore is made.
@@ -13,14 +14,14 @@ pub struct SemaphoreConfig {
     pub permits: u32,
     /// How many passes there may be at once, from 1 to 31.
     pub passes: u32,
-    /// How many waits may be drawn in all, from 1 to 1,048,576.
+    /// How many waits may be drawn in all, from 1 to 68,719,476,736.
     pub limit: u64,
 }
 
 impl Default for SemaphoreConfig {
     /// One permit, and as many passes and waits as there may be.
     fn default() -> SemaphoreConfig {
-        SemaphoreConfig { permits: 1, passes: 31, limit: 1_048_576 }
+        SemaphoreConfig { permits: 1, passes: 31, limit: MOST_LIMIT }
     }
 }
 

@@ -3,7 +3,7 @@
 use crate::errors::{MakeError, expect_in};
 use crate::ffi;
 use crate::pass::PassError;
-use crate::primitive::Primitive;
+use crate::primitive::{MOST_PASSES, Primitive};
 use std::sync::atomic::{AtomicU32, Ordering};
 
 /// A primitive of the library, and which of its passes nobody has.
@@ -12,6 +12,11 @@ pub(crate) struct Shared {
     primitive: Primitive,
     /// A bit for each pass that was made and that nobody has.
     idle: AtomicU32,
+    /// A bit for each pass that nobody has, but that still has something, since there was no slot
+    /// when it was to give it back.
+    stuck: AtomicU32,
+    /// What each of these has: the number of an element.
+    elements: [AtomicU32; MOST_PASSES as usize],
 }
 
 impl Shared {
@@ -20,17 +25,65 @@ impl Shared {
         expect_in(1..=31, "passes", passes.into())?;
         // One pass more: pass 0 makes the others, and is nobody's.
         let primitive = Primitive::new(kind, size, passes + 1, limit, 1)?;
-        Ok(Shared { primitive, idle: AtomicU32::new(0) })
+        let (idle, stuck) = (AtomicU32::new(0), AtomicU32::new(0));
+        Ok(Shared { primitive, idle, stuck, elements: Default::default() })
     }
 
-    /// One call.
+    /// One call. What is stuck is given back after it, if there is a slot for it by now.
     pub(crate) fn call(&self, what: u32, pass: u32, number: u64) -> ffi::Answer {
-        self.primitive.call(what, pass, number)
+        let answer = self.primitive.call(what, pass, number);
+        if self.stuck.load(Ordering::SeqCst) != 0 {
+            self.give_stuck();
+        }
+        answer
     }
 
     /// Goes on with what the pass owes, to the end.
     pub(crate) fn finish_all(&self, pass: u32) {
-        while self.call(ffi::DO_FINISH, pass, 0).answer == ffi::UNDER {}
+        // A resumption may want the slot that another call is just about to give up.
+        while self.primitive.call(ffi::DO_FINISH, pass, 0).answer == ffi::UNDER {
+            std::thread::yield_now();
+        }
+    }
+
+    /// Gives back what the pass has, and says whether there was a slot for it: else the pass has it
+    /// still.
+    pub(crate) fn leave(&self, pass: u32, element: u32) -> bool {
+        match self.primitive.call(ffi::DO_LEAVE, pass, element.into()).answer {
+            ffi::FREED | ffi::SENT | ffi::LEFT | ffi::VOID => true,
+            ffi::UNDER => {
+                self.finish_all(pass);
+                true
+            }
+            ffi::CROWDED => false,
+            other => unreachable!("a release was answered {other}"),
+        }
+    }
+
+    #[cold]
+    fn give_stuck(&self) {
+        let mut stuck = self.stuck.load(Ordering::SeqCst);
+        while stuck != 0 {
+            let pass = stuck.trailing_zeros();
+            let bit = 1 << pass;
+            stuck &= !bit;
+            if self.stuck.fetch_and(!bit, Ordering::SeqCst) & bit == 0 {
+                continue;
+            }
+            let element = self.elements[pass as usize].load(Ordering::SeqCst);
+            self.give_up(pass, Some(element));
+        }
+    }
+
+    /// Nobody has the pass any more. What it has is given back, now or after a later call.
+    pub(crate) fn give_up(&self, pass: u32, has: Option<u32>) {
+        match has {
+            Some(element) if !self.leave(pass, element) => {
+                self.elements[pass as usize].store(element, Ordering::SeqCst);
+                self.stuck.fetch_or(1 << pass, Ordering::SeqCst);
+            }
+            _ => self.put_idle(pass),
+        }
     }
 
     /// A pass, for one caller: one that another caller gave up, or a new one. Where another thread

@@ -28,7 +28,6 @@ returns-in-Cancelled-None-clause-stands c =
       owes = owes-none _ _ c.if-is_some.ensures left.ready;
       waits = one_less the_wait v w _ _ _ wait c.in-Some.ensures.taken
           (goes-same _ _ c.cancel.ensures.cancelled.2.called.same, left.waits_are) c.requires.stands.waits;
-      ample = c.requires.stands.ample;
       every = every_over the_wait v _ _ _ wait _ c.in-Some.ensures.taken c.requires.stands.belongs.live.inside
           c.requires.stands.waits left.waits_are c.requires.stands.every;
       elements = elements_same v.facts w.facts _ left.elements_are c.requires.stands.elements;
@@ -46,7 +45,6 @@ returns-in-Cancelled-Some-clause-stands c =
       owes = (left.0, left.1);
       waits = one_less the_wait v w _ _ _ wait c.in-Some.ensures.taken
           (goes-same _ _ c.cancel.ensures.cancelled.2.called.same, left.3) c.requires.stands.waits;
-      ample = c.requires.stands.ample;
       every = every_over the_wait v _ _ _ wait _ c.in-Some.ensures.taken c.requires.stands.belongs.live.inside
           c.requires.stands.waits left.3 c.requires.stands.every;
       elements = elements_same v.facts w.facts _ left.2 c.requires.stands.elements;
@@ -63,7 +61,6 @@ returns-in-TooLate-clause-stands c =
       owes = owes-none _ _ c.if-is_some.ensures left.ready;
       waits = one_less the_wait v w _ _ _ wait c.in-Some.ensures.taken
           (goes-same _ _ c.cancel.ensures.cancelled.2.called.same, left.waits_are) c.requires.stands.waits;
-      ample = c.requires.stands.ample;
       every = every_over the_wait v _ _ _ wait _ c.in-Some.ensures.taken c.requires.stands.belongs.live.inside
           c.requires.stands.waits left.waits_are c.requires.stands.every;
       elements = subst (HasElements w.facts) (sym c.push_reserved.ensures.items)

@@ -18,7 +18,6 @@ returns-in-Ok-clause-stands c =
       owes = owes-none _ _ c.if-is_some.ensures c.meet.ensures.ready;
       waits = same_waits the_wait _ (pass_view c.meet.new.pass) _
           (goes-met pool_object _ _ _ _ _ _ met, ap (λ (f : Facts). f.waits) met.facts_are) c.requires.stands.waits;
-      ample = c.requires.stands.ample;
       every = every_same _ _ _ (ap (λ (f : Facts). f.waits) met.facts_are) c.requires.stands.every;
       elements = elements_both _ _ _ _ c.in-Ok.ensures.elements
           (sym c.requires.given.elements.every
@@ -34,7 +33,6 @@ returns-in-Err-clause-stands c =
       owes = owes-none _ _ c.if-is_some.ensures c.meet.ensures.ready;
       waits = same_waits the_wait _ _ _
           (goes-is _ _ (ap (λ p. pass_view p) same), ap (λ p. (pass_view p).facts.waits) same) c.requires.stands.waits;
-      ample = c.requires.stands.ample;
       every = every_same _ _ _ (ap (λ p. (pass_view p).facts.waits) same) c.requires.stands.every;
       elements = elements_same _ _ _ (ap (λ p. (pass_view p).facts.has.slots) same) c.requires.stands.elements;
     }

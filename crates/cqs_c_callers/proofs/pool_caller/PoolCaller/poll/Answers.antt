@@ -27,7 +27,6 @@ returns-in-Granted-clause-stands c =
       owes = owes-none _ _ c.if-is_some.ensures c.poll.ensures.ready;
       waits = one_less the_wait v w _ _ _ wait c.in-Some.ensures.taken
           (goes-same _ _ c.poll.ensures.called.called.same, told.2.waits_are) c.requires.stands.waits;
-      ample = c.requires.stands.ample;
       every = every_over the_wait v _ _ _ wait _ c.in-Some.ensures.taken c.requires.stands.belongs.live.inside
           c.requires.stands.waits told.2.waits_are c.requires.stands.every;
       elements = subst (HasElements w.facts) (sym c.push_reserved.ensures.items)
@@ -46,7 +45,6 @@ returns-in-Pending-clause-stands c =
       waits = subst (HasTokens the_wait w) (sym c.push_reserved-in-Pending.ensures.items)
           (one_back the_wait v w _ _ _ wait c.in-Some.ensures.taken c.in-Pending.wait
           (goes-same _ _ c.poll.ensures.called.called.same, told.3.waits_are) told.0 told.1 c.requires.stands.waits);
-      ample = c.requires.stands.ample;
       every = every_back wait_index _ _ _ wait c.in-Some.ensures.taken c.in-Pending.wait _ _ _
           c.push_reserved-in-Pending.ensures.items told.3.waits_are c.requires.stands.every;
       elements = elements_same v.facts w.facts _ told.3.elements_are c.requires.stands.elements;

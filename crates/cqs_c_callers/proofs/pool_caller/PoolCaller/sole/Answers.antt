@@ -18,7 +18,6 @@ returns-clause-stands c =
       waits = same_waits the_wait _ _ _
           (goes-looked pool_object _ _ _ _ c.sole.ensures.looked.saw, ap (λ (f : Facts). f.waits) same)
           c.requires.stands.waits;
-      ample = c.requires.stands.ample;
       every = every_same _ _ _ (ap (λ (f : Facts). f.waits) same) c.requires.stands.every;
       elements = elements_same _ _ _ (ap (λ (f : Facts). f.has.slots) same) c.requires.stands.elements;
     }

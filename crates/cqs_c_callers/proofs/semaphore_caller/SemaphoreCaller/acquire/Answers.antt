@@ -6,7 +6,6 @@ use Rattle.cqs_rule.specs.Passes.{pass_view}
 use Rattle.cqs_rule.specs.Waits.{place_of}
 use Rattle.cqs_rule_laws.specs.CallRule.{IsReady}
 use Rattle.cqs_semaphore.specs.Calls.{IsMine}
-use Rattle.cqs_c_callers.proofs.Refusals.{only-worn}
 use Rattle.cqs_c_callers.specs.Waits.{HasAt, Apart}
 use Rattle.cqs_rule_laws.proofs.Places.{goes-same}
 use Rattle.cqs_c_callers.proofs.SemaphoreKept.{kept-same, kept-more, new-apart, took-waits, owes-none}
@@ -26,7 +25,6 @@ returns-in-Ok-Now-clause-stands c =
       waits = kept-same _ _ _ (goes-same _ _ c.acquire.ensures.called.called.same) (took-waits _ _ _ took)
           c.requires.stands.waits;
       apart = c.requires.stands.apart;
-      ample = c.requires.stands.ample;
       every = every_same _ _ _ (took-waits _ _ _ took) c.requires.stands.every;
     }
 
@@ -53,7 +51,6 @@ returns-in-Ok-Later-clause-stands c =
       waits = subst (λ p. All (HasAt (pass_view p)) c.push_reserved.new.self.items) (sym same)
           (subst (All (HasAt w)) (sym c.push_reserved.ensures.items) all);
       apart = subst Apart (sym c.push_reserved.ensures.items) apart;
-      ample = c.requires.stands.ample;
       every = every_more _ v.facts.waits (pass_view c.spend_wait-at.new.pass).facts.waits _ _ k
           c.push_reserved.ensures.items (ap (λ p. (pass_view p).facts.waits) same ∙ more) c.requires.stands.every;
     }
@@ -66,11 +63,22 @@ returns-in-Err-Worn-clause-stands c = record {
       (ap (λ (f : Facts). f.waits) (c.in-Err-Worn.ensures.worn (ap Err c.in-Err-Worn.field-0-is)).facts_are)
       c.requires.stands.waits;
   apart = c.requires.stands.apart;
-  ample = c.requires.stands.ample;
   every = every_same _ _ _
       (ap (λ (f : Facts). f.waits) (c.in-Err-Worn.ensures.worn (ap Err c.in-Err-Worn.field-0-is)).facts_are)
       c.requires.stands.every;
 }
+
+pub returns-in-Err-Crowded-clause-stands : goal.returns-in-Err-Crowded-clause-stands
+returns-in-Err-Crowded-clause-stands c =
+    let crowded = (c.in-Err-Crowded.ensures.crowded (ap Err c.in-Err-Crowded.field-0-is)).crowded in
+    let same = ap (λ (f : Facts). f.waits) crowded.facts_are in
+    record {
+      belongs = c.acquire.ensures.belongs;
+      owes = owes-none _ _ c.if-is_some.ensures c.acquire.ensures.ready;
+      waits = kept-same _ _ _ (goes-same _ _ c.acquire.ensures.called.called.same) same c.requires.stands.waits;
+      apart = c.requires.stands.apart;
+      every = every_same _ _ _ same c.requires.stands.every;
+    }
 
 pub returns-in-Ok-Now-clause-answered : goal.returns-in-Ok-Now-clause-answered
 returns-in-Ok-Now-clause-answered c =
@@ -78,8 +86,8 @@ returns-in-Ok-Now-clause-answered c =
       given = c.acquire.result;
       told = ap Now c.number.ensures ∙ ap told_acquired (sym (c.in-Ok-Now.is ∙ ap Ok c.in-Ok-Now.field-0-is));
       called = c.acquire.ensures.called;
-      worn = only-worn c.acquire.result _ c.acquire.ensures.worn
-          (c.acquire.ensures.never_crowded c.requires.stands.ample);
+      worn = c.acquire.ensures.worn;
+      crowded = c.acquire.ensures.crowded;
       acquired = c.acquire.ensures.acquired;
     })
 
@@ -91,8 +99,8 @@ returns-in-Ok-Later-clause-answered c =
       told = ap (λ (p : Place). Later p.index) c.spend_wait-at.ensures.place
           ∙ ap told_acquired (sym (c.in-Ok-Later.is ∙ ap Ok c.in-Ok-Later.field-0-is));
       called = c.acquire.ensures.called;
-      worn = only-worn c.acquire.result _ c.acquire.ensures.worn
-          (c.acquire.ensures.never_crowded c.requires.stands.ample);
+      worn = c.acquire.ensures.worn;
+      crowded = c.acquire.ensures.crowded;
       acquired = c.acquire.ensures.acquired;
     }))
 
@@ -102,7 +110,18 @@ returns-in-Err-Worn-clause-answered c =
       given = c.acquire.result;
       told = ap told_acquired (sym (c.in-Err-Worn.is ∙ ap Err c.in-Err-Worn.field-0-is));
       called = c.acquire.ensures.called;
-      worn = only-worn c.acquire.result _ c.acquire.ensures.worn
-          (c.acquire.ensures.never_crowded c.requires.stands.ample);
+      worn = c.acquire.ensures.worn;
+      crowded = c.acquire.ensures.crowded;
+      acquired = c.acquire.ensures.acquired;
+    })
+
+pub returns-in-Err-Crowded-clause-answered : goal.returns-in-Err-Crowded-clause-answered
+returns-in-Err-Crowded-clause-answered c =
+    inr (record {
+      given = c.acquire.result;
+      told = ap told_acquired (sym (c.in-Err-Crowded.is ∙ ap Err c.in-Err-Crowded.field-0-is));
+      called = c.acquire.ensures.called;
+      worn = c.acquire.ensures.worn;
+      crowded = c.acquire.ensures.crowded;
       acquired = c.acquire.ensures.acquired;
     })

@@ -36,7 +36,6 @@ returns-in-Cancelled-None-clause-stands c =
           (kept-others v w _ k _ _ token.at token.number_is
           (goes-same v w told.1.called.same) left.1 stands.apart stands.waits);
       apart = subst Apart (sym c.remove.ensures.items) (apart_remove _ _ stands.apart);
-      ample = stands.ample;
       every = every_less _ _ _ _ _ _ token.at.below c.remove.ensures.items left.1
           (stands.belongs.live.inside.once _ token.has.open_yet) stands.every;
     }
@@ -61,7 +60,6 @@ returns-in-Cancelled-Some-clause-stands c =
           (kept-others v w _ k _ _ token.at token.number_is
           (goes-same v w told.1.called.same) left.1 stands.apart stands.waits);
       apart = subst Apart (sym c.remove-in-Cancelled-Some.ensures.items) (apart_remove _ _ stands.apart);
-      ample = stands.ample;
       every = every_less _ _ _ _ _ _ token.at.below c.remove-in-Cancelled-Some.ensures.items left.1
           (stands.belongs.live.inside.once _ token.has.open_yet) stands.every;
     }
@@ -81,7 +79,6 @@ returns-in-TooLate-clause-stands c =
           (kept-others _ w _ _ _ _ token.at token.number_is
           (goes-same _ _ told.1.called.same) told.2.3.waits_are stands.apart stands.waits);
       apart = subst Apart (sym c.remove-in-TooLate.ensures.items) (apart_remove _ _ stands.apart);
-      ample = stands.ample;
       every = every_less _ _ _ _ _ _ token.at.below c.remove-in-TooLate.ensures.items told.2.3.waits_are
           (stands.belongs.live.inside.once _ token.has.open_yet) stands.every;
     }

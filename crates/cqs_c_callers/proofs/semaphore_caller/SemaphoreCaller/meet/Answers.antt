@@ -15,7 +15,6 @@ returns-in-Ok-clause-stands c = record {
   waits = kept-same _ _ _ (goes-met semaphore_object _ _ _ _ _ _ c.in-Ok.ensures.met)
       (ap (λ (f : Facts). f.waits) c.in-Ok.ensures.met.facts_are) c.requires.stands.waits;
   apart = c.requires.stands.apart;
-  ample = c.requires.stands.ample;
   every = every_same _ _ _ (ap (λ (f : Facts). f.waits) c.in-Ok.ensures.met.facts_are) c.requires.stands.every;
 }
 
@@ -26,7 +25,6 @@ returns-in-Err-clause-stands c = record {
   waits = kept-same _ _ _ (goes-is _ _ (ap (λ p. pass_view p) c.in-Err.ensures.unchanged))
       (ap (λ p. (pass_view p).facts.waits) c.in-Err.ensures.unchanged) c.requires.stands.waits;
   apart = c.requires.stands.apart;
-  ample = c.requires.stands.ample;
   every = every_same _ _ _ (ap (λ p. (pass_view p).facts.waits) c.in-Err.ensures.unchanged) c.requires.stands.every;
 }
 

@@ -28,7 +28,6 @@ returns-in-Granted-clause-stands c =
           (kept-others _ w _ _ _ _ token.at token.number_is
           (goes-same _ _ c.poll.ensures.called.called.same) polled.2.waits_are stands.apart stands.waits);
       apart = subst Apart (sym c.remove.ensures.items) (apart_remove _ _ stands.apart);
-      ample = stands.ample;
       every = every_less _ _ _ _ _ _ token.at.below c.remove.ensures.items polled.2.waits_are
           (stands.belongs.live.inside.once _ token.has.open_yet) stands.every;
     }
@@ -45,7 +44,6 @@ returns-in-Pending-clause-stands c =
       owes = owes-none _ _ free c.poll.ensures.ready;
       waits = kept-same _ _ _ (goes-same _ _ c.poll.ensures.called.called.same) polled.3.waits_are stands.waits;
       apart = stands.apart;
-      ample = stands.ample;
       every = every_same _ _ _ polled.3.waits_are stands.every;
     }
 

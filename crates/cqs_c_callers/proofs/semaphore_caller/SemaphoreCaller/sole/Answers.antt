@@ -16,7 +16,6 @@ returns-clause-stands c = record {
   waits = kept-same _ _ _ (goes-looked semaphore_object _ _ _ _ c.sole.ensures.looked.saw)
       (ap (λ (f : Facts). f.waits) c.sole.ensures.looked.facts_are) c.requires.stands.waits;
   apart = c.requires.stands.apart;
-  ample = c.requires.stands.ample;
   every = every_same _ _ _ (ap (λ (f : Facts). f.waits) c.sole.ensures.looked.facts_are) c.requires.stands.every;
 }
 

@@ -19,7 +19,6 @@ returns-in-Ok-clause-stands c = record {
   waits = kept-same _ _ _ (goes-looked semaphore_object _ _ _ _ c.split.ensures.looked.saw)
       (ap (λ (f : Facts). f.waits) c.split.ensures.looked.facts_are) c.requires.stands.waits;
   apart = c.requires.stands.apart;
-  ample = c.requires.stands.ample;
   every = every_same _ _ _ (ap (λ (f : Facts). f.waits) c.split.ensures.looked.facts_are) c.requires.stands.every;
 }
 
@@ -30,7 +29,6 @@ returns-in-Err-clause-stands c = record {
   waits = kept-same _ _ _ (goes-looked semaphore_object _ _ _ _ c.split.ensures.looked.saw)
       (ap (λ (f : Facts). f.waits) c.split.ensures.looked.facts_are) c.requires.stands.waits;
   apart = c.requires.stands.apart;
-  ample = c.requires.stands.ample;
   every = every_same _ _ _ (ap (λ (f : Facts). f.waits) c.split.ensures.looked.facts_are) c.requires.stands.every;
 }
 

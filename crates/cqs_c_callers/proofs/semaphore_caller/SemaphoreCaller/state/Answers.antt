@@ -14,7 +14,6 @@ returns-clause-stands c = record {
   waits = kept-same _ _ _ (goes-same _ _ c.state.ensures.called.called.same) c.state.ensures.rests.waits_are
       c.requires.stands.waits;
   apart = c.requires.stands.apart;
-  ample = c.requires.stands.ample;
   every = every_same _ _ _ c.state.ensures.rests.waits_are c.requires.stands.every;
 }
 

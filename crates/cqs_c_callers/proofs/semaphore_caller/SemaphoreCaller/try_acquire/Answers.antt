@@ -17,7 +17,6 @@ returns-in-Got-clause-stands c =
       waits = kept-same _ _ _ (goes-same _ _ c.try_acquire.ensures.called.called.same) tries.1.rests.waits_are
           c.requires.stands.waits;
       apart = c.requires.stands.apart;
-      ample = c.requires.stands.ample;
       every = every_same _ _ _ tries.1.rests.waits_are c.requires.stands.every;
     }
 
@@ -30,7 +29,6 @@ returns-in-Busy-clause-stands c =
       waits = kept-same _ _ _ (goes-same _ _ c.try_acquire.ensures.called.called.same) tries.rests.waits_are
           c.requires.stands.waits;
       apart = c.requires.stands.apart;
-      ample = c.requires.stands.ample;
       every = every_same _ _ _ tries.rests.waits_are c.requires.stands.every;
     }
 
@@ -43,7 +41,6 @@ returns-in-Contended-clause-stands c =
       waits = kept-same _ _ _ (goes-same _ _ c.try_acquire.ensures.called.called.same) tries.rests.waits_are
           c.requires.stands.waits;
       apart = c.requires.stands.apart;
-      ample = c.requires.stands.ample;
       every = every_same _ _ _ tries.rests.waits_are c.requires.stands.every;
     }
 

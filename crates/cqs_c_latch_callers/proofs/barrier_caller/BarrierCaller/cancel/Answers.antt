@@ -28,7 +28,6 @@ returns-in-Withdrawn-clause-stands c =
       waits = one_less wait_in v w _ _ _ wait c.in-Some.ensures.taken
           (goes-same _ _ told.0.called.same, told.1.waits_are) c.requires.stands.waits;
       apart = apart-none _ _ c.if-is_some.ensures;
-      ample = c.requires.stands.ample;
       every = every-none _ _ _ c.if-is_some.ensures
           (every_over wait_in v _ _ _ wait _ c.in-Some.ensures.taken c.requires.stands.belongs.live.inside
           c.requires.stands.waits told.1.waits_are (none-every _ _ _ c.if-is_some.ensures c.requires.stands.every));
@@ -46,7 +45,6 @@ returns-in-TooLate-clause-stands c =
       owes = owes-none w _ c.if-is_some.ensures told.2;
       waits = one_less wait_in v w _ _ _ wait c.in-Some.ensures.taken (told.0, told.1) c.requires.stands.waits;
       apart = apart-none _ _ c.if-is_some.ensures;
-      ample = c.requires.stands.ample;
       every = every-none _ _ _ c.if-is_some.ensures
           (every_over wait_in v _ _ _ wait _ c.in-Some.ensures.taken c.requires.stands.belongs.live.inside
           c.requires.stands.waits told.1 (none-every _ _ _ c.if-is_some.ensures c.requires.stands.every));
@@ -65,7 +63,6 @@ returns-in-Contended-clause-stands c =
       waits = one_out wait_in v w _ _ _ wait c.in-Some.ensures.taken (goes-same _ _ told.0.called.same, told.4) old;
       apart = subst (λ (k : ℕ). All (λ x. wait_index (wait_in x) ≢ k) c.take_out.new.tokens.items) (sym told.2)
           (taken_others (λ x. wait_index (wait_in x)) _ _ _ wait c.in-Some.ensures.taken old.apart);
-      ample = c.requires.stands.ample;
       every = (
         one_fewer (λ x. wait_index (wait_in x)) _ _ _ wait c.in-Some.ensures.taken
             ∙ every_same _ _ _ told.4 (none-every _ _ _ c.if-is_some.ensures c.requires.stands.every),

@@ -25,7 +25,6 @@ returns-in-Withdrawn-clause-stands c =
       waits = one_gone wait_in v w _ k (goes-same _ _ told.0.called.same, told.1.waits_are) c.requires.apart
           c.requires.waits;
       apart = subst (λ o. StayApart o c.args.self.now.waits.items) (sym c.requires.free) tt;
-      ample = c.requires.ample;
       every = subst (λ o. AreEvery o c.args.self.now.waits.items w.facts.waits) (sym c.requires.free)
           (every-left k _ _ _ told.1.waits_are (c.requires.belongs.live.inside.once k c.requires.has_yet)
           c.requires.every);
@@ -42,7 +41,6 @@ returns-in-TooLate-clause-stands c =
       owes = subst (OwesJust w) (sym c.requires.free) told.2;
       waits = one_gone wait_in v w _ k (told.0, told.1) c.requires.apart c.requires.waits;
       apart = subst (λ o. StayApart o c.args.self.now.waits.items) (sym c.requires.free) tt;
-      ample = c.requires.ample;
       every = subst (λ o. AreEvery o c.args.self.now.waits.items w.facts.waits) (sym c.requires.free)
           (every-left k _ _ _ told.1 (c.requires.belongs.live.inside.once k c.requires.has_yet) c.requires.every);
     }
@@ -59,7 +57,6 @@ returns-in-Contended-clause-stands c =
       waits = same_waits wait_in v w _ (goes-same _ _ told.0.called.same, told.4) c.requires.waits;
       apart = subst (λ (n : ℕ). All (λ x. wait_index (wait_in x) ≢ n) c.args.self.now.waits.items) (sym told.2)
           c.requires.apart;
-      ample = c.requires.ample;
       every = (c.requires.every ∙ ap length (sym told.4), has-yet _ _ _ _ told.2 told.4 c.requires.has_yet);
     }
 

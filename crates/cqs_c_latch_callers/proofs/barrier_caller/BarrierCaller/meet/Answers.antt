@@ -20,7 +20,6 @@ returns-in-Ok-clause-stands c =
       waits = same_waits wait_in v w _
           (goes-met barrier_object _ _ _ _ _ _ met, ap (λ (f : Facts). f.waits) met.facts_are) c.requires.stands.waits;
       apart = apart-none _ _ c.if-is_some.ensures;
-      ample = c.requires.stands.ample;
       every = every-stays _ _ _ _ (ap (λ (f : Facts). f.waits) met.facts_are) c.requires.stands.every;
     }
 
@@ -35,7 +34,6 @@ returns-in-Err-clause-stands c =
       waits = same_waits wait_in v w _
           (goes-is _ _ (ap (λ p. pass_view p) same), ap (λ p. (pass_view p).facts.waits) same) c.requires.stands.waits;
       apart = apart-none _ _ c.if-is_some.ensures;
-      ample = c.requires.stands.ample;
       every = every-stays _ _ _ _ (ap (λ p. (pass_view p).facts.waits) same) c.requires.stands.every;
     }
 

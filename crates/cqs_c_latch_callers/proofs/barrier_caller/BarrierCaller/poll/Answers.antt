@@ -25,7 +25,6 @@ returns-in-Through-clause-stands c =
       waits = one_less wait_in v w _ _ _ wait c.in-Some.ensures.taken
           (goes-same _ _ c.poll.ensures.called.called.same, told.1.waits_are) c.requires.stands.waits;
       apart = apart-none _ _ c.if-is_some.ensures;
-      ample = c.requires.stands.ample;
       every = every-none _ _ _ c.if-is_some.ensures
           (every_over wait_in v _ _ _ wait _ c.in-Some.ensures.taken c.requires.stands.belongs.live.inside
           c.requires.stands.waits told.1.waits_are (none-every _ _ _ c.if-is_some.ensures c.requires.stands.every));
@@ -44,7 +43,6 @@ returns-in-Pending-clause-stands c =
           (one_back wait_in v w _ _ _ wait c.in-Some.ensures.taken c.in-Pending.wait
           (goes-same _ _ c.poll.ensures.called.called.same, told.3.waits_are) told.0 told.1 c.requires.stands.waits);
       apart = apart-none _ _ c.if-is_some.ensures;
-      ample = c.requires.stands.ample;
       every = every-none _ _ _ c.if-is_some.ensures
           (every_back (λ x. wait_index (wait_in x)) _ _ _ wait c.in-Some.ensures.taken c.in-Pending.wait _ _ _
           c.push_reserved.ensures.items told.3.waits_are

@@ -19,7 +19,6 @@ returns-in-Ok-clause-stands c =
       owes = subst (OwesJust w) (sym c.requires.free) told.4;
       waits = same_waits wait_in v w _ (goes-same _ _ told.2.called.called.same, told.2.waits) c.requires.waits;
       apart = subst (λ o. StayApart o c.args.self.now.waits.items) (sym c.requires.free) tt;
-      ample = c.requires.ample;
       every = subst (λ o. AreEvery o c.args.self.now.waits.items w.facts.waits) (sym c.requires.free)
           (every_same _ _ _ told.2.waits c.requires.every);
     }
@@ -34,7 +33,6 @@ returns-in-Err-clause-stands c =
       owes = told.3;
       waits = same_waits wait_in v w _ (goes-same _ _ told.1.called.called.same, told.1.waits) c.requires.waits;
       apart = tt;
-      ample = c.requires.ample;
       every = every_same _ _ _ told.1.waits c.requires.every;
     }
 

@@ -21,7 +21,6 @@ returns-clause-stands c =
           (goes-looked barrier_object _ _ _ _ looked, ap (λ (f : Facts). f.waits) looked.facts_are)
           c.requires.stands.waits;
       apart = c.requires.stands.apart;
-      ample = c.requires.stands.ample;
       every = every-stays _ _ _ _ (ap (λ (f : Facts). f.waits) looked.facts_are) c.requires.stands.every;
     }
 

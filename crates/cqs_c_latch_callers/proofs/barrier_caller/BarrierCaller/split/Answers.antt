@@ -30,7 +30,6 @@ returns-in-Ok-clause-stands c =
           (goes-looked barrier_object _ _ _ _ gave, ap (λ (f : Facts). f.waits) gave.facts_are)
           c.requires.stands.waits;
       apart = apart-none _ _ c.if-is_some.ensures;
-      ample = c.requires.stands.ample;
       every = every-stays _ _ _ _ (ap (λ (f : Facts). f.waits) gave.facts_are) c.requires.stands.every;
     }
 
@@ -47,7 +46,6 @@ returns-in-Err-clause-stands c =
           (goes-looked barrier_object _ _ _ _ looked, ap (λ (f : Facts). f.waits) looked.facts_are)
           c.requires.stands.waits;
       apart = apart-none _ _ c.if-is_some.ensures;
-      ample = c.requires.stands.ample;
       every = every-stays _ _ _ _ (ap (λ (f : Facts). f.waits) looked.facts_are) c.requires.stands.every;
     }
 

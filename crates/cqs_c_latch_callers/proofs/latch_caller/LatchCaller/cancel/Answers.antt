@@ -23,7 +23,6 @@ returns-in-Gone-clause-stands c =
       owes = owes-none _ _ c.if-is_some.ensures
           (subst (λ answer. IsReadyLeft answer w.facts) c.in-Gone.is c.cancel.ensures.ready);
       waits = tokens_others the_wait _ _ _ _ _ _ taken c.cancel.ensures.keeps old;
-      ample = c.requires.stands.ample;
       every = every_over the_wait _ _ _ _ _ _ taken c.requires.stands.belongs.live.inside old
           (left-waits (pass_view c.args.self.now.pass) w _ _ _ c.cancel.ensures.left) c.requires.stands.every;
     }
@@ -37,7 +36,6 @@ returns-in-GoneOwing-clause-stands c =
       belongs = c.cancel.ensures.belongs;
       owes = subst (λ answer. IsReadyLeft answer w.facts) c.in-GoneOwing.is c.cancel.ensures.ready;
       waits = tokens_others the_wait _ _ _ _ _ _ taken c.cancel.ensures.keeps old;
-      ample = c.requires.stands.ample;
       every = every_over the_wait _ _ _ _ _ _ taken c.requires.stands.belongs.live.inside old
           (left-waits (pass_view c.args.self.now.pass) w _ _ _ c.cancel.ensures.left) c.requires.stands.every;
     }
@@ -52,7 +50,6 @@ returns-in-TooLate-clause-stands c =
       owes = owes-none _ _ c.if-is_some.ensures
           (subst (λ answer. IsReadyLeft answer w.facts) c.in-TooLate.is c.cancel.ensures.ready);
       waits = tokens_others the_wait _ _ _ _ _ _ taken c.cancel.ensures.keeps old;
-      ample = c.requires.stands.ample;
       every = every_over the_wait _ _ _ _ _ _ taken c.requires.stands.belongs.live.inside old
           (left-waits (pass_view c.args.self.now.pass) w _ _ _ c.cancel.ensures.left) c.requires.stands.every;
     }

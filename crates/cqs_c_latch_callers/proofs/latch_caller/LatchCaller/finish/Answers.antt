@@ -13,7 +13,6 @@ returns-in-Ok-clause-stands c = record {
   belongs = c.finish.ensures.belongs;
   owes = subst (OwesJust (pass_view c.finish.new.pass).facts) (sym c.take.ensures.after) c.in-Ok.ensures.ready;
   waits = tokens_stay the_wait _ _ _ c.finish.ensures.keeps c.requires.stands.waits;
-  ample = c.requires.stands.ample;
   every = every_same _ _ _ (finished-waits _ _ _ _ c.finish.ensures.finished) c.requires.stands.every;
 }
 
@@ -22,7 +21,6 @@ returns-in-Err-clause-stands c = record {
   belongs = c.finish.ensures.belongs;
   owes = c.in-Err.ensures.owes;
   waits = tokens_stay the_wait _ _ _ c.finish.ensures.keeps c.requires.stands.waits;
-  ample = c.requires.stands.ample;
   every = every_same _ _ _ (finished-waits _ _ _ _ c.finish.ensures.finished) c.requires.stands.every;
 }
 

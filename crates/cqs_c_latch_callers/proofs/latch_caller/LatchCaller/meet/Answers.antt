@@ -12,7 +12,6 @@ returns-in-Ok-clause-stands c = record {
   belongs = c.meet.ensures.belongs;
   owes = owes-none _ _ c.if-is_some.ensures c.meet.ensures.ready;
   waits = tokens_stay the_wait _ _ _ c.meet.ensures.keeps c.requires.stands.waits;
-  ample = c.requires.stands.ample;
   every = every_same _ _ _ (ap (λ (f : Facts). f.waits) c.in-Ok.ensures.met.facts_are) c.requires.stands.every;
 }
 
@@ -21,7 +20,6 @@ returns-in-Err-clause-stands c = record {
   belongs = c.meet.ensures.belongs;
   owes = owes-none _ _ c.if-is_some.ensures c.meet.ensures.ready;
   waits = tokens_stay the_wait _ _ _ c.meet.ensures.keeps c.requires.stands.waits;
-  ample = c.requires.stands.ample;
   every = every_same _ _ _ (ap (λ p. (pass_view p).facts.waits) c.in-Err.ensures.unchanged) c.requires.stands.every;
 }
 

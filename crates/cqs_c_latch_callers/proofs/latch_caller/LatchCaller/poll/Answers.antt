@@ -23,7 +23,6 @@ returns-in-Through-clause-stands c =
       belongs = c.poll.ensures.belongs;
       owes = owes-none _ _ c.if-is_some.ensures c.poll.ensures.ready;
       waits = tokens_others the_wait _ _ _ _ _ _ taken c.poll.ensures.keeps old;
-      ample = c.requires.stands.ample;
       every = every_over the_wait v _ _ _ c.in-Some.wait _ taken c.requires.stands.belongs.live.inside old
           told.1.waits_are c.requires.stands.every;
     }
@@ -40,7 +39,6 @@ returns-in-Pending-clause-stands c =
       owes = owes-none _ _ c.if-is_some.ensures c.poll.ensures.ready;
       waits = subst (HasTokens the_wait w) (sym c.push_reserved.ensures.items)
           (tokens_back the_wait v w _ _ _ _ taken c.in-Pending.wait told.0 told.1 c.poll.ensures.keeps old);
-      ample = c.requires.stands.ample;
       every = every_back wait_index _ _ _ _ taken c.in-Pending.wait _ _ _ c.push_reserved.ensures.items
           told.3.waits_are c.requires.stands.every;
     }

@@ -12,7 +12,6 @@ returns-clause-stands c = record {
   owes = subst (λ (f : Facts). OwesJust f c.args.self.now.owed) (sym c.sole.ensures.looked.facts_are)
       c.requires.stands.owes;
   waits = tokens_stay the_wait _ _ _ c.sole.ensures.keeps c.requires.stands.waits;
-  ample = c.requires.stands.ample;
   every = every_same _ _ _ (ap (λ (f : Facts). f.waits) c.sole.ensures.looked.facts_are) c.requires.stands.every;
 }
 

@@ -17,7 +17,6 @@ returns-in-Ok-clause-stands c = record {
   belongs = c.split.ensures.belongs;
   owes = owes-none _ _ c.if-is_some.ensures c.split.ensures.ready;
   waits = tokens_stay the_wait _ _ _ c.split.ensures.keeps c.requires.stands.waits;
-  ample = c.requires.stands.ample;
   every = every_same _ _ _ (ap (λ (f : Facts). f.waits) c.split.ensures.looked.facts_are) c.requires.stands.every;
 }
 
@@ -26,7 +25,6 @@ returns-in-Err-clause-stands c = record {
   belongs = c.split.ensures.belongs;
   owes = owes-none _ _ c.if-is_some.ensures c.split.ensures.ready;
   waits = tokens_stay the_wait _ _ _ c.split.ensures.keeps c.requires.stands.waits;
-  ample = c.requires.stands.ample;
   every = every_same _ _ _ (ap (λ (f : Facts). f.waits) c.split.ensures.looked.facts_are) c.requires.stands.every;
 }
 

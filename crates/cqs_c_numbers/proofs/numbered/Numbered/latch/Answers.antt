@@ -11,5 +11,6 @@ returns-clause-open c =
     let seen = ap (λ p. (pass_view p).seen) first.pass ∙ made.nothing in
     let none = ap (λ v. v.items) first.waits ∙ c.in_ok-room.ensures.items in
     let room = ap (λ v. vec_capacity v) first.waits ∙ c.in_ok-room.ensures.exact in
+    let slots = ap (λ p. (pass_view p).slots) first.pass ∙ made.slots in
     opens-first c.args.config 0 c.args.waits 0 _ _ c.open.result made.passes.0 made.passes.1
-    first.stands number (seen, none, room) c.open.ensures.opened
+    first.stands number (seen, none, room) slots c.open.ensures.opened

@@ -13,5 +13,6 @@ returns-clause-open c =
     let room = ap (λ v. vec_capacity v) first.waits ∙ c.in_ok-room.ensures.exact in
     let no_elements = ap (λ v. v.items) first.elements ∙ c.in_ok-elements.ensures.items in
     let places = ap (λ v. vec_capacity v) first.elements ∙ c.in_ok-elements.ensures.exact in
+    let slots = ap (λ p. (pass_view p).slots) first.pass ∙ made.slots in
     opens-first c.args.config 0 c.args.waits (c.args.size + 1) _ _ c.open.result made.passes.0 made.passes.1
-    first.stands number (seen, none, room, no_elements, places) c.open.ensures.opened
+    first.stands number (seen, none, room, no_elements, places) slots c.open.ensures.opened

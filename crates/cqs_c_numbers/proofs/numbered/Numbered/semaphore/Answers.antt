@@ -12,5 +12,6 @@ returns-clause-open c =
     let held = ap (λ p. (pass_view p).facts.has.held) first.pass ∙ made.ready.held_is in
     let none = ap (λ v. v.items) first.waits ∙ c.in_ok-room.ensures.items in
     let room = ap (λ v. vec_capacity v) first.waits ∙ c.in_ok-room.ensures.exact in
+    let slots = ap (λ p. (pass_view p).slots) first.pass ∙ made.slots in
     opens-first c.args.config 0 c.args.waits 0 _ _ c.open.result made.passes.0 made.passes.1
-    first.stands number (seen, held, none, room) c.open.ensures.opened
+    first.stands number (seen, held, none, room) slots c.open.ensures.opened

@@ -30,6 +30,7 @@ party-held held passes p d n does free each = record { at = λ r e got. go r e g
     other r doing.Owes apart has = tt
     other r (doing.Ticket k) apart has = tt
     other r (doing.Leaving k) apart has = tt
+    other r (doing.Watching k) apart has = tt
 
     own : (e : Doing) → HasParty [] p e → HasParty (set held p n) p e
     own (doing.Decided k true) none = absurd (omega arith)
@@ -41,6 +42,7 @@ party-held held passes p d n does free each = record { at = λ r e got. go r e g
     own doing.Owes none = tt
     own (doing.Ticket k) none = tt
     own (doing.Leaving k) none = tt
+    own (doing.Watching k) none = tt
 
     go : (r : ℕ) (e : Doing) → slice_get passes r ≡ Some e → (r ≡ p) ⊎ (r ≢ p) → HasParty (set held p n) r e
     go r e got (inl same) =

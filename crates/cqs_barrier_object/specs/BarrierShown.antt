@@ -57,6 +57,7 @@ HasParty held p (doing.Drawn k) = Unit {0}
 HasParty held p doing.Owes = Unit {0}
 HasParty held p (doing.Ticket k) = Unit {0}
 HasParty held p (doing.Leaving k) = Unit {0}
+HasParty held p (doing.Watching k) = Unit {0}
 
 -- Before all have arrived nothing was resumed, and the parties are those that are still to come and
 -- those that wait.

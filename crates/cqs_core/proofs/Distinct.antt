@@ -2,8 +2,8 @@
 use Rattle.std.proofs.Common.{◌≡◌, ◌≢◌, ◌⊎◌, inl, inr, ℕ, zero, suc, ◌==◌, nat_lt, Bool, true, false, List, [], ◌∷◌, Some, if◌then◌else◌, refl, ap, sym, ◌∙◌, eqb-true}
 use Rattle.std.proofs.lemmas.Bool.{cases_Bool, eqb-false}
 use Rattle.cqs_core.specs.Numbered.{IsIn}
-use Rattle.cqs_core.specs.Keyed.{insert_by, change_by}
-use Rattle.cqs_core.proofs.Rising.{in-behind, in-none, Lacks, lacks-in, lacks-placed}
+use Rattle.cqs_core.specs.Keyed.{insert_by, without, change_by}
+use Rattle.cqs_core.proofs.Rising.{in-behind, in-none, Lacks, lacks-in, lacks-placed, lacks-without}
 
 module _ {Y : Type 0} (key : Y → ℕ) where
   pub lacks-from : (n : ℕ) (ys : List Y) → ((y : Y) → IsIn y ys → key y ≢ n) → Lacks key n ys
@@ -27,6 +27,14 @@ module _ {Y : Type 0} (key : Y → ℕ) where
           → AreDistinct (if b then y ∷ z ∷ zs else z ∷ insert_by key y zs)
       go true rest = (lacks, apart)
       go false rest = (lacks-placed key (key z) y zs (λ e. lacks.0 (sym e)) apart.0, rest)
+
+  pub distinct-without : (n : ℕ) (ys : List Y) → AreDistinct ys → AreDistinct (without key n ys)
+  distinct-without n [] apart = tt
+  distinct-without n (z ∷ zs) apart = go (n == key z) (distinct-without n zs apart.1)
+    where
+      go : (b : Bool) → AreDistinct (without key n zs) → AreDistinct (if b then zs else z ∷ without key n zs)
+      go true rest = apart.1
+      go false rest = (lacks-without key (key z) n zs apart.0, rest)
 
   -- an element of the list with one more is that one, or was there
   pub in-placed : (x y : Y) (ys : List Y) → IsIn x (insert_by key y ys) → (x ≡ y) ⊎ IsIn x ys
@@ -105,6 +113,31 @@ module _ {Y : Type 0} (key : Y → ℕ) where
             at : (x ≡ z) ⊎ IsIn x (change_by key n f zs) → IsFrom x (z ∷ zs)
             at (inl same) = first (inl same)
             at (inr later) = from-later x z zs (rest later)
+
+    -- an element with another key than the changed one was there
+    pub in-changed_else : (n : ℕ) (x : Y) (ys : List Y) → key x ≢ n → IsIn x (change_by key n f ys) → IsIn x ys
+    in-changed_else n x [] other stands = absurd (in-none x stands)
+    in-changed_else n x (z ∷ zs) other stands =
+        go (cases_Bool (n == key z)) (λ there. in-changed_else n x zs other there) stands
+      where
+        behind : IsIn x zs → IsIn x (z ∷ zs)
+        behind later = record { place = suc later.place; there = later.there }
+
+        at_same : n ≡ key z → (x ≡ f z) ⊎ IsIn x zs → IsIn x (z ∷ zs)
+        at_same here (inl same) = absurd (other (ap key same ∙ same_key z ∙ sym here))
+        at_same here (inr later) = behind later
+
+        at_else : (IsIn x (change_by key n f zs) → IsIn x zs) → (x ≡ z) ⊎ IsIn x (change_by key n f zs)
+            → IsIn x (z ∷ zs)
+        at_else rest (inl same) = record { place = zero; there = ap Some (sym same) }
+        at_else rest (inr later) = behind (rest later)
+
+        go : ((n == key z) ≡ true) ⊎ ((n == key z) ≡ false) → (IsIn x (change_by key n f zs) → IsIn x zs)
+            → IsIn x (change_by key n f (z ∷ zs)) → IsIn x (z ∷ zs)
+        go (inl here) rest there =
+            at_same (eqb-true n (key z) here) (in-behind x (f z) zs (rw here at there))
+        go (inr away) rest there =
+            at_else rest (in-behind x z (change_by key n f zs) (rw away at there))
 
     -- where no key is there twice, whatever has the key that was changed is what an element became
     pub changed-all : (n : ℕ) (x : Y) (ys : List Y) → AreDistinct ys → key x ≡ n → IsIn x (change_by key n f ys)

@@ -8,11 +8,11 @@ use Rattle.cqs_core.specs.declared.cells.CoreState.TheVariants as state
 use Rattle.cqs_core.specs.declared.doings.Doing.{Doing}
 use Rattle.cqs_core.specs.declared.doings.Doing.TheVariants as doing
 use Rattle.cqs_core.specs.QueueState.{Queue, owner_doing, is_leaving, has_ticket, is_ticket}
-use Rattle.cqs_core.specs.QueueLine.{at_door, door, due, in_line, stays_in_line, waiting_of, line, is_served, services, is_resuming, is_told_refused, has_left, is_unmet, going, ending, has_ready, ready}
+use Rattle.cqs_core.specs.QueueLine.{at_door, door, due, in_line, stays_in_line, waiting_of, line, is_served, is_resuming, is_told_refused, has_left, is_unmet, going, ending, has_ready, ready}
 use Rattle.cqs_core.specs.QueueWaiters.{Waiters, waiters, due_of}
 use Rattle.cqs_core.specs.QueueMoves as move
 use Rattle.cqs_core.specs.QueueMoves.{IsCancelling, Works, Owns, move_queue, now_doing, with_cell, at_state}
-use Rattle.cqs_core.specs.QueueSound.{IsSound, IsSoundAt, IsOwn, IsTicket, IsUnended}
+use Rattle.cqs_core.specs.QueueSound.{IsSound, IsSoundAt, IsOwn, IsTicket, IsUnended, IsAwaited, AreApart}
 use Rattle.cqs_core.proofs.Counts.{bit, count_by-write}
 use Rattle.cqs_core.proofs.Keys.{around-kept}
 use Rattle.cqs_core.proofs.LineReads.{caller, wait_of, service_wait, line-turn, line-around, served-around, door-around}
@@ -55,7 +55,7 @@ pub record ReadsSame (q : Queue) (p : ℕ) (from to : Doing) (k : ℕ) (found ne
       bit (is_told_refused to) + bit (is_unmet q.resumes (set q.doing p to) k new) + ended
       ≡ bit (is_told_refused from) + bit (is_unmet q.resumes q.doing k found)
 
-keeps-write : (q : Queue) (p : ℕ) (from to : Doing) (k : ℕ) (found new : CoreCell) (ended : ℕ)
+pub keeps-write : (q : Queue) (p : ℕ) (from to : Doing) (k : ℕ) (found new : CoreCell) (ended : ℕ)
     → Writes q p from to k found → ReadsSame q p from to k found new ended
     → Keeps q (now_doing (with_cell q k new) p to) ended
 keeps-write q p from to k found new ended writes reads =
@@ -176,15 +176,14 @@ keeps-pass_over q p k found works =
     })
 
 -- the one resumption of a refused cell ends there
-pub keeps-meet_refused : (q : Queue) (p k : ℕ) (found : CoreCell) → IsSound q
+pub keeps-meet_refused-from : (q : Queue) (p k : ℕ) (found : CoreCell) → k < q.resumes → AreApart q.doing
     → Works q p (doing.Ticket k) k found state.Refused → Keeps q (move_queue q (move.meet_refused p k found)) 1
-keeps-meet_refused q p k found sound works =
-    let ticket : IsTicket q k = sound.passes.at p (doing.Ticket k) works.does in
+keeps-meet_refused-from q p k found drawn apart works =
     let after : List Doing = set q.doing p doing.Idle in
-    let reached : nat_le q.resumes k ≡ false = lt-leb q.resumes k ticket.reached in
+    let reached : nat_le q.resumes k ≡ false = lt-leb q.resumes k drawn in
     let was_open : has_ticket k q.doing ≡ true = has_ticket-from q.doing p k works.does in
     let closed : has_ticket k after ≡ false =
-    has_ticket-closes q.doing p k doing.Idle sound.apart works.does refl in
+    has_ticket-closes q.doing p k doing.Idle apart works.does refl in
     let was_unmet : is_unmet q.resumes q.doing k found ≡ true = rw (works.at, reached) was_open in
     let is_met : is_unmet q.resumes after k found ≡ false = rw (works.at, reached) closed in
     let none_left : has_left found ≡ false = rw works.at refl in
@@ -198,6 +197,12 @@ keeps-meet_refused q p k found sound works =
       going = rw none_left refl;
       ending = rw (was_unmet, is_met) refl;
     })
+
+pub keeps-meet_refused : (q : Queue) (p k : ℕ) (found : CoreCell) → IsSound q
+    → Works q p (doing.Ticket k) k found state.Refused → Keeps q (move_queue q (move.meet_refused p k found)) 1
+keeps-meet_refused q p k found sound works =
+    let ticket : IsTicket q k = sound.passes.at p (doing.Ticket k) works.does in
+    keeps-meet_refused-from q p k found ticket.reached sound.apart works
 
 pub keeps-begin_cancel : (q : Queue) (p k : ℕ) (found : CoreCell) → Works q p doing.Idle k found state.Waiter
     → Owns p found
@@ -226,10 +231,10 @@ keeps-begin_cancel q p k found works owns =
     })
 
 -- the pass that was told the answer owns the cell, and so the number is no longer in line
-record Told (q : Queue) (p k : ℕ) (on : Bool) (found : CoreCell) : Type 0 where
-  owner : found.owner ≡ Some p
-  at : IsCancelling found.state
-  gone : in_line q.doing k found ≡ None
+pub record Told (q : Queue) (p k : ℕ) (on : Bool) (found : CoreCell) : Type 0 where
+  pub owner : found.owner ≡ Some p
+  pub at : IsCancelling found.state
+  pub gone : in_line q.doing k found ≡ None
 
 pub stays-not : (k : ℕ) (s : CoreState) (o : Option Doing) → IsCancelling s → is_leaving k o ≡ false
     → stays_in_line k s o ≡ false
@@ -237,14 +242,9 @@ stays-not k state.Cancelling o at none = none
 stays-not k state.Delegated o at none = none
 stays-not k _ o at none = absurd at
 
-told-gone : (q : Queue) (p k : ℕ) (on : Bool) (found : CoreCell) → IsSound q
-    → slice_get q.doing p ≡ Some (doing.Decided k on) → slice_get q.cells k ≡ Some found → Told q p k on found
-told-gone q p k on found sound does finds =
-    let own : IsOwn q p k IsCancelling = sound.passes.at p (doing.Decided k on) does in
-    let own_found : slice_get q.cells k ≡ Some own.cell = own.found in
-    let cell : own.cell ≡ found = cc in
-    let owner : found.owner ≡ Some p = subst (λ (c : CoreCell). c.owner ≡ Some p) cell own.owner in
-    let at : IsCancelling found.state = subst (λ (c : CoreCell). IsCancelling c.state) cell own.at in
+pub told-from : (q : Queue) (p k : ℕ) (on : Bool) (found : CoreCell) → found.owner ≡ Some p → IsCancelling found.state
+    → slice_get q.doing p ≡ Some (doing.Decided k on) → Told q p k on found
+told-from q p k on found owner at does =
     let told : owner_doing q.doing found ≡ Some (doing.Decided k on) = rw owner does in
     let none : is_leaving k (owner_doing q.doing found) ≡ false = rw told refl in
     let stays : stays_in_line k found.state (owner_doing q.doing found) ≡ false =
@@ -252,15 +252,23 @@ told-gone q p k on found sound does finds =
     let gone : in_line q.doing k found ≡ waiting_of k (Some p) false = ap₂ (waiting_of k) owner stays in
     record { owner = owner; at = at; gone = gone }
 
+told-gone : (q : Queue) (p k : ℕ) (on : Bool) (found : CoreCell) → IsSound q
+    → slice_get q.doing p ≡ Some (doing.Decided k on) → slice_get q.cells k ≡ Some found → Told q p k on found
+told-gone q p k on found sound does finds =
+    let own : IsOwn q p k IsCancelling = sound.passes.at p (doing.Decided k on) does in
+    let own_found : slice_get q.cells k ≡ Some own.cell = own.found in
+    let cell : own.cell ≡ found = cc in
+    told-from q p k on found (subst (λ (c : CoreCell). c.owner ≡ Some p) cell own.owner)
+    (subst (λ (c : CoreCell). IsCancelling c.state) cell own.at) does
+
 -- what a settled cell becomes isn't in line
 settled-gone : (passes : List Doing) (k p : ℕ) (cell : CoreCell) (s : CoreState) → cell.owner ≡ Some p
     → stays_in_line k s (owner_doing passes cell) ≡ false → in_line passes k (at_state cell s) ≡ None
 settled-gone passes k p cell s owner stays = ap₂ (waiting_of k) owner stays
 
-pub keeps-cancel : (q : Queue) (p k : ℕ) (found : CoreCell) → IsSound q
+pub keeps-cancel-from : (q : Queue) (p k : ℕ) (found : CoreCell) → Told q p k true found
     → Works q p (doing.Decided k true) k found state.Cancelling → Keeps q (move_queue q (move.cancel p k found)) 0
-keeps-cancel q p k found sound works =
-    let told = told-gone q p k true found sound works.does works.finds in
+keeps-cancel-from q p k found told works =
     keeps-write q p (doing.Decided k true) doing.Idle k found (at_state found state.Cancelled) 0
     (record { does = works.does; finds = works.finds; leaves = λ m other. refl; tickets = λ m other. refl })
     (record {
@@ -273,11 +281,15 @@ keeps-cancel q p k found sound works =
       ending = rw works.at refl;
     })
 
-pub keeps-cancel_owing : (q : Queue) (p k : ℕ) (found : CoreCell) → IsSound q
+pub keeps-cancel : (q : Queue) (p k : ℕ) (found : CoreCell) → IsSound q
+    → Works q p (doing.Decided k true) k found state.Cancelling → Keeps q (move_queue q (move.cancel p k found)) 0
+keeps-cancel q p k found sound works =
+    keeps-cancel-from q p k found (told-gone q p k true found sound works.does works.finds) works
+
+pub keeps-cancel_owing-from : (q : Queue) (p k : ℕ) (found : CoreCell) → Told q p k true found
     → Works q p (doing.Decided k true) k found state.Delegated
     → Keeps q (move_queue q (move.cancel_owing p k found)) 0
-keeps-cancel_owing q p k found sound works =
-    let told = told-gone q p k true found sound works.does works.finds in
+keeps-cancel_owing-from q p k found told works =
     keeps-write q p (doing.Decided k true) doing.Owes k found (at_state found state.Cancelled) 0
     (record { does = works.does; finds = works.finds; leaves = λ m other. refl; tickets = λ m other. refl })
     (record {
@@ -290,18 +302,20 @@ keeps-cancel_owing q p k found sound works =
       ending = rw works.at refl;
     })
 
+pub keeps-cancel_owing : (q : Queue) (p k : ℕ) (found : CoreCell) → IsSound q
+    → Works q p (doing.Decided k true) k found state.Delegated → Keeps q (move_queue q (move.cancel_owing p k found)) 0
+keeps-cancel_owing q p k found sound works =
+    keeps-cancel_owing-from q p k found (told-gone q p k true found sound works.does works.finds) works
+
 -- no resume has met the cell, and the one that will ends there
-pub keeps-refuse : (q : Queue) (p k : ℕ) (found : CoreCell) → IsSound q
+pub keeps-refuse-from : (q : Queue) (p k : ℕ) (found : CoreCell) → Told q p k false found → IsAwaited q k
     → Works q p (doing.Decided k false) k found state.Cancelling → Keeps q (move_queue q (move.refuse p k found)) 0
-keeps-refuse q p k found sound works =
-    let told = told-gone q p k false found sound works.does works.finds in
+keeps-refuse-from q p k found told waits works =
     let after : List Doing = set q.doing p doing.Idle in
-    let cell : IsSoundAt q k found state.Cancelling =
-    subst (λ (s : CoreState). IsSoundAt q k found s) works.at (sound.cells.at k found works.finds) in
     let ticket : has_ticket k after ≡ has_ticket k q.doing =
     has_ticket-frame q.doing p k (doing.Decided k false) doing.Idle works.does refl in
     let unmet : (nat_le q.resumes k || has_ticket k after) ≡ true =
-    rw ticket (awaited cell.1 (cases_lt k q.resumes)) in
+    rw ticket (awaited waits (cases_lt k q.resumes)) in
     keeps-write q p (doing.Decided k false) doing.Idle k found (at_state found state.Refused) 0
     (record { does = works.does; finds = works.finds; leaves = λ m other. refl; tickets = λ m other. refl })
     (record {
@@ -318,19 +332,23 @@ keeps-refuse q p k found sound works =
     awaited waits (inl reached) = or_right (nat_le q.resumes k) (has_ticket k q.doing) (waits reached)
     awaited waits (inr beyond) = or_left (nat_le q.resumes k) (has_ticket k q.doing) (le-leb q.resumes k beyond)
 
--- a resume left its value to the canceller: it ends with the cell
-pub keeps-refuse_left : (q : Queue) (p k : ℕ) (found : CoreCell) → IsSound q
-    → Works q p (doing.Decided k false) k found state.Delegated → Keeps q (move_queue q (move.refuse p k found)) 1
-keeps-refuse_left q p k found sound works =
-    let told = told-gone q p k false found sound works.does works.finds in
-    let after : List Doing = set q.doing p doing.Idle in
-    let cell : IsSoundAt q k found state.Delegated =
+pub keeps-refuse : (q : Queue) (p k : ℕ) (found : CoreCell) → IsSound q
+    → Works q p (doing.Decided k false) k found state.Cancelling → Keeps q (move_queue q (move.refuse p k found)) 0
+keeps-refuse q p k found sound works =
+    let cell : IsSoundAt q k found state.Cancelling =
     subst (λ (s : CoreState). IsSoundAt q k found s) works.at (sound.cells.at k found works.finds) in
-    let closed : has_ticket k q.doing ≡ false = has_ticket-none q.doing k none in
+    keeps-refuse-from q p k found (told-gone q p k false found sound works.does works.finds) cell.1 works
+
+-- a resume left its value to the canceller: it ends with the cell
+pub keeps-refuse_left-from : (q : Queue) (p k : ℕ) (found : CoreCell) → Told q p k false found → k < q.resumes
+    → has_ticket k q.doing ≡ false
+    → Works q p (doing.Decided k false) k found state.Delegated → Keeps q (move_queue q (move.refuse p k found)) 1
+keeps-refuse_left-from q p k found told reached closed works =
+    let after : List Doing = set q.doing p doing.Idle in
     let ticket : has_ticket k after ≡ has_ticket k q.doing =
     has_ticket-frame q.doing p k (doing.Decided k false) doing.Idle works.does refl in
     let met : (nat_le q.resumes k || has_ticket k after) ≡ false =
-    or_from (nat_le q.resumes k) (has_ticket k after) (lt-leb q.resumes k cell.1) (ticket ∙ closed) in
+    or_from (nat_le q.resumes k) (has_ticket k after) (lt-leb q.resumes k reached) (ticket ∙ closed) in
     keeps-write q p (doing.Decided k false) doing.Idle k found (at_state found state.Refused) 1
     (record { does = works.does; finds = works.finds; leaves = λ m other. refl; tickets = λ m other. refl })
     (record {
@@ -341,6 +359,14 @@ keeps-refuse_left q p k found sound works =
       going = rw works.at refl;
       ending = rw (met, works.at) refl;
     })
+
+pub keeps-refuse_left : (q : Queue) (p k : ℕ) (found : CoreCell) → IsSound q
+    → Works q p (doing.Decided k false) k found state.Delegated → Keeps q (move_queue q (move.refuse p k found)) 1
+keeps-refuse_left q p k found sound works =
+    let cell : IsSoundAt q k found state.Delegated =
+    subst (λ (s : CoreState). IsSoundAt q k found s) works.at (sound.cells.at k found works.finds) in
+    keeps-refuse_left-from q p k found (told-gone q p k false found sound works.does works.finds) cell.1
+    (has_ticket-none q.doing k none) works
   where
     none : (r : ℕ) → slice_get q.doing r ≢ Some (doing.Ticket k)
     none r has =

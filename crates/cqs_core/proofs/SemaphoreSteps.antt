@@ -14,16 +14,24 @@ use Rattle.cqs_core.specs.SemaphoreShown.{IsCore}
 use Rattle.cqs_core.specs.SemaphoreTable.{Shape, last_number, moves, gains, records}
 use Rattle.cqs_core.proofs.OpenRows.{WhereOpen, where-open}
 use Rattle.cqs_core.proofs.QueueStepMoves.{leads}
-use Rattle.cqs_core.proofs.RowsSuspend.{draw-number, install-waiter, install-took}
-use Rattle.cqs_core.proofs.RowsResume.{reach-number, meet-waiter, meet-empty, meet-cancelling, meet-cancelled, meet-refused}
-use Rattle.cqs_core.proofs.RowsCancel.{leave-waiter, leave-late, settle-cancelled, settle-owing, settle-refused, settle-ended}
-use Rattle.cqs_core.proofs.RowsLook.{look-pending, look-granted}
+use Rattle.cqs_core.proofs.PlainRows.{draw-number, install-waiter, install-took}
+use Rattle.cqs_core.proofs.PlainRows.{reach-number, meet-waiter, meet-empty, meet-cancelling, meet-cancelled, meet-refused}
+use Rattle.cqs_core.proofs.PlainRows.{leave-waiter, leave-late, settle-cancelled, settle-owing, settle-refused, settle-ended}
+use Rattle.cqs_core.proofs.PlainRows.{look-pending, look-granted}
 
 -- the same core, with its history and its queue written so
 same-core : (s : Shape) (history : List Entry) (q : Queue) → history ≡ s.history → q ≡ s.queue → IsCore s
-    → IsCore (record { permits = s.permits; state = s.state; held = s.held; history = history; queue = q })
+    → IsCore (record {
+      sync = s.sync;
+      permits = s.permits;
+      state = s.state;
+      held = s.held;
+      history = history;
+      queue = q;
+    })
 same-core s history q histories queues core =
     subst (λ (z : List Entry × Queue). IsCore (record {
+      sync = s.sync;
       permits = s.permits;
       state = s.state;
       held = s.held;
@@ -33,7 +41,14 @@ same-core s history q histories queues core =
 
 -- a step with no entry
 quiet : (s r : Shape) (q : Queue) → r.history ≡ s.history → q ≡ r.queue → IsCore r
-    → IsCore (record { permits = r.permits; state = r.state; held = r.held; history = s.history ++ []; queue = q })
+    → IsCore (record {
+      sync = r.sync;
+      permits = r.permits;
+      state = r.state;
+      held = r.held;
+      history = s.history ++ [];
+      queue = q;
+    })
 quiet s r q histories queues core = same-core r (s.history ++ []) q (append-nil s.history ∙ sym histories) queues core
 
 keeps-core : (s : Shape) (t : QueueStep) (p k : ℕ) → IsCore s → IsSemaphoreStep t

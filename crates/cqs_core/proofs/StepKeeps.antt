@@ -1,234 +1,23 @@
--- Each row of the table keeps the core, and so does each call that answers by a row.
-use Rattle.std.proofs.Common.{◌≡◌, ℕ, ℤ, ◌≤ℤ◌, ◌<ℤ◌, Bool, true, false, Option, Some, None, Result, Ok, Err, slice_get, refl, arith, if◌then◌else◌, int_lt, int_le, ltb-true, eqb-true}
-use Rattle.std.proofs.lemmas.Bool.{and_parts}
-use Rattle.std.proofs.lemmas.Int.{ints}
-use Rattle.std.proofs.lemmas.Bool.Decides.{Decides-int_eq}
-use Rattle.cqs_core.specs.declared.cells.CoreCell.{CoreCell}
-use Rattle.cqs_core.specs.declared.cells.CoreState.{CoreState}
-use Rattle.cqs_core.specs.declared.cells.CoreState.TheVariants as state
-use Rattle.cqs_core.specs.declared.doings.Doing.{Doing}
-use Rattle.cqs_core.specs.declared.doings.Doing.TheVariants as doing
+-- Each row of the table keeps the core that isn't synchronous, and so does each call that answers by a row.
+use Rattle.std.proofs.Common.{◌≡◌, Option, Some, None, Result, Ok, Err, refl}
 use Rattle.cqs_core.specs.declared.errors.CoreError.{CoreError}
 use Rattle.cqs_core.specs.declared.errors.CoreError.TheVariants.{Memory, BadSize, NotEnabled}
 use Rattle.cqs_core.specs.declared.events.Event.{Event}
-use Rattle.cqs_core.specs.declared.events.Event.TheVariants as event
 use Rattle.cqs_core.specs.declared.outcomes.Outcome.{Outcome}
-use Rattle.cqs_core.specs.QueueMoves.{Owns}
-use Rattle.cqs_core.specs.SemaphoreTable.{Shape, Stepped, step, take_row, try_load_row, try_swap_row, draw_row, install_row, install_at, give_row, reach_row, meet_row, meet_at, is_owner, is_with, leave_row, leave_with, leave_at, decide_row, settle_row, settle_at, look_row, look_with, look_at}
+use Rattle.cqs_core.specs.SemaphoreTable.{Shape, Stepped, step}
 use Rattle.cqs_core.specs.SemaphoreAnswers.{Makes, Room, MakesReady}
 use Rattle.cqs_core.specs.SemaphoreShown.{IsCore}
-use Rattle.cqs_core.proofs.RowsKeep.{KeepsCore, keeps-none, keeps-answers, keeps-if, keeps-found}
-use Rattle.cqs_core.proofs.RowsTake.{take-now, take-door, try-busy, try-loaded, try-got, try-contended}
-use Rattle.cqs_core.proofs.RowsSuspend.{draw-number, install-waiter, install-took}
-use Rattle.cqs_core.proofs.RowsResume.{give-sent, give-freed, reach-number, meet-waiter, meet-empty, meet-cancelling, meet-cancelled, meet-refused}
-use Rattle.cqs_core.proofs.RowsCancel.{leave-waiter, leave-late, settle-cancelled, settle-owing, settle-refused, settle-ended}
-use Rattle.cqs_core.proofs.RowsDecide.{decide-passes, decide-refuses}
-use Rattle.cqs_core.proofs.RowsLook.{look-pending, look-granted}
+use Rattle.cqs_core.proofs.RowsKeep.{Keeps}
+use Rattle.cqs_core.proofs.EitherFacts.{rows-keep-plain}
 
--- what the table's tests of the state word say
-below-true : (a b : ℤ) → int_lt a b ≡ true → a <ℤ b
-below-true a b e = grind (arith, ints)
-
-below-false : (a b : ℤ) → int_lt a b ≡ false → b ≤ℤ a
-below-false a b e = grind (arith, ints)
-
-within-true : (a b : ℤ) → int_le a b ≡ true → a ≤ℤ b
-within-true a b e = grind (arith, ints)
-
-within-false : (a b : ℤ) → int_le a b ≡ false → b <ℤ a
-within-false a b e = grind (arith, ints)
-
-take-row : (s : Shape) (p : ℕ) → IsCore s → (d : Option Doing) → slice_get s.queue.doing p ≡ d
-    → KeepsCore (take_row s p d)
-take-row s p core (Some doing.Idle) does =
-    keeps-if _ _ _
-    (λ above. keeps-if _ _ _
-    (λ free. keeps-answers _ _ (take-now s p core does (below-true _ _ above) (below-true _ _ free)))
-    (λ none. keeps-answers _ _ (take-door s p core does (below-true _ _ above) (below-false _ _ none))))
-    (λ low. keeps-none)
-take-row s p core _ does = keeps-none
-
-try-load-row : (s : Shape) (p : ℕ) → IsCore s → (d : Option Doing) → slice_get s.queue.doing p ≡ d
-    → KeepsCore (try_load_row s p d)
-try-load-row s p core (Some doing.Idle) does =
-    keeps-if _ _ _
-    (λ none. keeps-answers _ _ (try-busy s p core (within-true _ _ none)))
-    (λ free. keeps-answers _ _ (try-loaded s p core does (within-false _ _ free)))
-try-load-row s p core _ does = keeps-none
-
-try-swap-row : (s : Shape) (p : ℕ) → IsCore s → (d : Option Doing) → slice_get s.queue.doing p ≡ d
-    → KeepsCore (try_swap_row s p d)
-try-swap-row s p core (Some (doing.TryAt v)) does =
-    keeps-if _ _ _
-    (λ same. keeps-answers _ _ (try-got s p v core does ((Decides-int_eq s.state v).0 same)))
-    (λ other. keeps-answers _ _ (try-contended s p v core does))
-try-swap-row s p core _ does = keeps-none
-
-draw-row : (s : Shape) (p : ℕ) → IsCore s → (d : Option Doing) → slice_get s.queue.doing p ≡ d
-    → KeepsCore (draw_row s p d)
-draw-row s p core (Some doing.Door) does =
-    keeps-if _ _ _
-    (λ below. keeps-answers _ _ (draw-number s p core does (ltb-true _ _ below)))
-    (λ full. keeps-none)
-draw-row s p core _ does = keeps-none
-
-install-at : (s : Shape) (p k : ℕ) (cell : CoreCell) (now : CoreState) → IsCore s
-    → slice_get s.queue.doing p ≡ Some (doing.Drawn k) → slice_get s.queue.cells k ≡ Some cell
-    → cell.state ≡ now
-    → KeepsCore (install_at s p k cell now)
-install-at s p k cell state.Empty core does finds at =
-    keeps-answers _ _ (install-waiter s p k cell core (record { does = does; finds = finds; at = at }))
-install-at s p k cell state.Value core does finds at =
-    keeps-answers _ _ (install-took s p k cell core (record { does = does; finds = finds; at = at }))
-install-at s p k cell _ core does finds at = keeps-none
-
-install-row : (s : Shape) (p : ℕ) → IsCore s → (d : Option Doing) → slice_get s.queue.doing p ≡ d
-    → KeepsCore (install_row s p d)
-install-row s p core (Some (doing.Drawn k)) does =
-    keeps-found (λ cell. install_at s p k cell cell.state) (slice_get s.queue.cells k)
-    (λ cell finds. install-at s p k cell cell.state core does finds refl)
-install-row s p core _ does = keeps-none
-
-give-row : (s : Shape) (p : ℕ) → IsCore s → (d : Option Doing) → slice_get s.queue.doing p ≡ d
-    → KeepsCore (give_row s p d)
-give-row s p core (Some doing.Idle) does =
-    keeps-if _ _ _
-    (λ holds. keeps-if _ _ _
-    (λ below. keeps-answers _ _ (give-sent s p core does (ltb-true _ _ holds) (below-true _ _ below)))
-    (λ above. keeps-answers _ _ (give-freed s p core does (ltb-true _ _ holds) (below-false _ _ above))))
-    (λ none. keeps-none)
-give-row s p core _ does = keeps-none
-
-reach-row : (s : Shape) (p : ℕ) → IsCore s → (d : Option Doing) → slice_get s.queue.doing p ≡ d
-    → KeepsCore (reach_row s p d)
-reach-row s p core (Some doing.Owes) does =
-    keeps-if _ _ _
-    (λ below. keeps-answers _ _ (reach-number s p core does (ltb-true _ _ below)))
-    (λ full. keeps-none)
-reach-row s p core _ does = keeps-none
-
-meet-at : (s : Shape) (p k : ℕ) (cell : CoreCell) (now : CoreState) → IsCore s
-    → slice_get s.queue.doing p ≡ Some (doing.Ticket k) → slice_get s.queue.cells k ≡ Some cell
-    → cell.state ≡ now
-    → KeepsCore (meet_at s p k cell now)
-meet-at s p k cell state.Waiter core does finds at =
-    keeps-answers _ _ (meet-waiter s p k cell core (record { does = does; finds = finds; at = at }))
-meet-at s p k cell state.Empty core does finds at =
-    keeps-answers _ _ (meet-empty s p k cell core (record { does = does; finds = finds; at = at }))
-meet-at s p k cell state.Cancelling core does finds at =
-    keeps-answers _ _ (meet-cancelling s p k cell core (record { does = does; finds = finds; at = at }))
-meet-at s p k cell state.Cancelled core does finds at =
-    keeps-answers _ _ (meet-cancelled s p k cell core (record { does = does; finds = finds; at = at }))
-meet-at s p k cell state.Refused core does finds at =
-    keeps-answers _ _ (meet-refused s p k cell core (record { does = does; finds = finds; at = at }))
-meet-at s p k cell _ core does finds at = keeps-none
-
-meet-row : (s : Shape) (p : ℕ) → IsCore s → (d : Option Doing) → slice_get s.queue.doing p ≡ d
-    → KeepsCore (meet_row s p d)
-meet-row s p core (Some (doing.Ticket k)) does =
-    keeps-found (λ cell. meet_at s p k cell cell.state) (slice_get s.queue.cells k)
-    (λ cell finds. meet-at s p k cell cell.state core does finds refl)
-meet-row s p core _ does = keeps-none
-
--- a pass that may end a wait is its owner
-owner-true : (p : ℕ) (owner : Option ℕ) → is_owner p owner ≡ true → owner ≡ Some p
-owner-true p (Some other) e = let same : other ≡ p = eqb-true other p e in cc
-owner-true p None e = absurd (cc)
-
-uncollected-true : (b : Bool) → (if b then false else true) ≡ true → b ≡ false
-uncollected-true true e = absurd (cc)
-uncollected-true false e = refl
-
-pub owns-from : (p : ℕ) (cell : CoreCell) → is_with p cell ≡ true → Owns p cell
-owns-from p cell e =
-    let both = and_parts (is_owner p cell.owner) (if cell.collected then false else true) e in
-    record { owner = owner-true p cell.owner both.0; uncollected = uncollected-true cell.collected both.1 }
-
-leave-at : (s : Shape) (p k : ℕ) (cell : CoreCell) (now : CoreState) → IsCore s
-    → slice_get s.queue.doing p ≡ Some doing.Idle → slice_get s.queue.cells k ≡ Some cell → cell.state ≡ now
-    → Owns p cell → KeepsCore (leave_at s p k cell now)
-leave-at s p k cell state.Waiter core does finds at owns =
-    keeps-answers _ _ (leave-waiter s p k cell core (record { does = does; finds = finds; at = at }) owns)
-leave-at s p k cell state.Resumed core does finds at owns =
-    keeps-answers _ _ (leave-late s p k cell core (record { does = does; finds = finds; at = at }) owns)
-leave-at s p k cell _ core does finds at owns = keeps-none
-
-leave-row : (s : Shape) (p k : ℕ) → IsCore s → (d : Option Doing) → slice_get s.queue.doing p ≡ d
-    → KeepsCore (leave_row s p k d)
-leave-row s p k core (Some doing.Idle) does =
-    keeps-found (λ cell. leave_with s p k cell) (slice_get s.queue.cells k)
-    (λ cell finds. keeps-if _ _ _
-    (λ owned. leave-at s p k cell cell.state core does finds refl (owns-from p cell owned))
-    (λ other. keeps-none))
-leave-row s p k core _ does = keeps-none
-
-decide-row : (s : Shape) (p : ℕ) → IsCore s → (d : Option Doing) → slice_get s.queue.doing p ≡ d
-    → KeepsCore (decide_row s p d)
-decide-row s p core (Some (doing.Leaving k)) does =
-    keeps-if _ _ _
-    (λ below. keeps-answers _ _ (decide-passes s p k core does (below-true _ _ below)))
-    (λ above. keeps-answers _ _ (decide-refuses s p k core does (below-false _ _ above)))
-decide-row s p core _ does = keeps-none
-
-settle-at : (s : Shape) (p k : ℕ) (on : Bool) (cell : CoreCell) (now : CoreState) → IsCore s
-    → slice_get s.queue.doing p ≡ Some (doing.Decided k on) → slice_get s.queue.cells k ≡ Some cell
-    → cell.state ≡ now
-    → KeepsCore (settle_at s p k on cell now)
-settle-at s p k true cell state.Cancelling core does finds at =
-    keeps-answers _ _ (settle-cancelled s p k cell core (record { does = does; finds = finds; at = at }))
-settle-at s p k true cell state.Delegated core does finds at =
-    keeps-answers _ _ (settle-owing s p k cell core (record { does = does; finds = finds; at = at }))
-settle-at s p k false cell state.Cancelling core does finds at =
-    keeps-answers _ _ (settle-refused s p k cell core (record { does = does; finds = finds; at = at }))
-settle-at s p k false cell state.Delegated core does finds at =
-    keeps-answers _ _ (settle-ended s p k cell core (record { does = does; finds = finds; at = at }))
-settle-at s p k true cell _ core does finds at = keeps-none
-settle-at s p k false cell _ core does finds at = keeps-none
-
-settle-row : (s : Shape) (p : ℕ) → IsCore s → (d : Option Doing) → slice_get s.queue.doing p ≡ d
-    → KeepsCore (settle_row s p d)
-settle-row s p core (Some (doing.Decided k on)) does =
-    keeps-found (λ cell. settle_at s p k on cell cell.state) (slice_get s.queue.cells k)
-    (λ cell finds. settle-at s p k on cell cell.state core does finds refl)
-settle-row s p core _ does = keeps-none
-
-look-at : (s : Shape) (p k : ℕ) (cell : CoreCell) (now : CoreState) → IsCore s
-    → slice_get s.queue.doing p ≡ Some doing.Idle → slice_get s.queue.cells k ≡ Some cell → cell.state ≡ now
-    → Owns p cell → KeepsCore (look_at s p k cell now)
-look-at s p k cell state.Waiter core does finds at owns =
-    keeps-answers _ _ (look-pending s p k cell core (record { does = does; finds = finds; at = at }) owns)
-look-at s p k cell state.Resumed core does finds at owns =
-    keeps-answers _ _ (look-granted s p k cell core (record { does = does; finds = finds; at = at }) owns)
-look-at s p k cell _ core does finds at owns = keeps-none
-
-look-row : (s : Shape) (p k : ℕ) → IsCore s → (d : Option Doing) → slice_get s.queue.doing p ≡ d
-    → KeepsCore (look_row s p k d)
-look-row s p k core (Some doing.Idle) does =
-    keeps-found (λ cell. look_with s p k cell) (slice_get s.queue.cells k)
-    (λ cell finds. keeps-if _ _ _
-    (λ owned. look-at s p k cell cell.state core does finds refl (owns-from p cell owned))
-    (λ other. keeps-none))
-look-row s p k core _ does = keeps-none
-
-pub rows-keep : (s : Shape) (e : Event) → IsCore s → KeepsCore (step s e)
-rows-keep s (event.Take p) core = take-row s p core (slice_get s.queue.doing p) refl
-rows-keep s (event.TryLoad p) core = try-load-row s p core (slice_get s.queue.doing p) refl
-rows-keep s (event.TrySwap p) core = try-swap-row s p core (slice_get s.queue.doing p) refl
-rows-keep s (event.Draw p) core = draw-row s p core (slice_get s.queue.doing p) refl
-rows-keep s (event.Install p) core = install-row s p core (slice_get s.queue.doing p) refl
-rows-keep s (event.Give p) core = give-row s p core (slice_get s.queue.doing p) refl
-rows-keep s (event.Reach p) core = reach-row s p core (slice_get s.queue.doing p) refl
-rows-keep s (event.Meet p) core = meet-row s p core (slice_get s.queue.doing p) refl
-rows-keep s (event.Leave p k) core = leave-row s p k core (slice_get s.queue.doing p) refl
-rows-keep s (event.Decide p) core = decide-row s p core (slice_get s.queue.doing p) refl
-rows-keep s (event.Settle p) core = settle-row s p core (slice_get s.queue.doing p) refl
-rows-keep s (event.Look p k) core = look-row s p k core (slice_get s.queue.doing p) refl
+pub rows-keep : (s : Shape) (e : Event) → IsCore s → Keeps IsCore (step s e)
+rows-keep s e core = rows-keep-plain s e core
 
 -- what an allowed event makes of a core is a core
 pub row-core : (s : Shape) (e : Event) (row : Stepped) → IsCore s → step s e ≡ Some row → IsCore row.shape
 row-core s e row core is = (rows-keep s e core).at row is
 
-makes-core : (s new : Shape) (row : Option Stepped) (r : Result Outcome CoreError) → IsCore s → KeepsCore row
+makes-core : (s new : Shape) (row : Option Stepped) (r : Result Outcome CoreError) → IsCore s → Keeps IsCore row
     → Makes row r s new → IsCore new
 makes-core s new (Some row) (Ok o) core keeps made = rw made.1 (keeps.at row refl)
 makes-core s new (Some row) (Err Memory) core keeps made = rw made core
@@ -244,7 +33,7 @@ pub step-keeps : (s new : Shape) (e : Event) (r : Result Outcome CoreError) → 
     → Makes (step s e) r s new → IsCore new
 step-keeps s new e r core made = makes-core s new (step s e) r core (rows-keep s e core) made
 
-ready-core : (old new : Room) (row : Option Stepped) (o : Option Outcome) → IsCore old.shape → KeepsCore row
+ready-core : (old new : Room) (row : Option Stepped) (o : Option Outcome) → IsCore old.shape → Keeps IsCore row
     → MakesReady row o old new → IsCore new.shape
 ready-core old new (Some row) (Some o) core keeps made = rw made.1 (keeps.at row refl)
 ready-core old new None None core keeps made = rw made core

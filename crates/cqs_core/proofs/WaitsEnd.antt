@@ -6,13 +6,13 @@ use Rattle.cqs_core.specs.declared.entries.Entry.TheVariants as entry
 use Rattle.cqs_core.specs.Keyed.{without}
 use Rattle.cqs_core.specs.QueueLine.{Waiting}
 use Rattle.cqs_core.specs.SemaphoreObject.{Semaphore, opening, due}
-use Rattle.cqs_core.specs.SemaphoreEntries.{IsAllowed, Waits, after_entry, turned_back, IsLegal, IsFirst}
+use Rattle.cqs_core.specs.SemaphoreEntries.{IsAllowed, Waits, after_entry, turned_back, IsLegal, IsFirst, has_spoiled}
 use Rattle.cqs_core.specs.SemaphoreLaws.{object_before, EndsWait, EveryWaitEndsOnce, ServiceIsInOrder}
 use Rattle.cqs_core.proofs.Places.{get-below}
-use Rattle.cqs_core.proofs.Rising.{in-take, IsRising, rising-push, rising-without, rising-above}
+use Rattle.cqs_core.proofs.Rising.{in-take, IsRising, rising-push, rising-without, rising-above, rising-higher}
 use Rattle.cqs_core.proofs.Histories.{object-next, walk, walk-all}
 use Rattle.cqs_core.proofs.Balance.{one-permit-to-first}
-use Rattle.cqs_core.proofs.Waits.{waiting_key, IsGone, AreWaitsApart, gone-entry, gone-ended, gone-ends_not, apart-entry, apart-opening}
+use Rattle.cqs_core.proofs.Waits.{waiting_key, AreWaitsApart, IsSpent, spent-entry, enters_by, gone-ended, gone-ends_not, apart-entry, apart-opening}
 
 module _ (permits : ℕ) (history : List Entry) (legal : IsLegal permits history) where
   pub waits-apart : (n : ℕ) → n ≤ length history → AreWaitsApart (object_before permits history n)
@@ -26,15 +26,17 @@ module _ (permits : ℕ) (history : List Entry) (legal : IsLegal permits history
       → EndsWait k d → EndsWait k e → m < n → ⊥
   ends-not_later k m n d e gets_d gets_e ends_d ends_e later =
       let within : n < length history = get-below history n e gets_e in
-      let gone : IsGone (object_before permits history (suc m)) k =
+      let gone : IsSpent (object_before permits history (suc m)) k =
       rw (object-next IsAllowed after_entry (opening permits) history m d gets_d)
       (gone-ended (object_before permits history m) d k
       (waits-apart m (omega arith)) (legal.at m d gets_d) ends_d) in
-      let still : IsGone (object_before permits history n) k =
-      walk IsAllowed after_entry (opening permits) history (λ i o. IsGone o k) legal
-      (λ i f got allowed g. gone-entry (object_before permits history i) f k allowed g)
+      let still : IsSpent (object_before permits history n) k =
+      walk IsAllowed after_entry (opening permits) history (λ i o. IsSpent o k) legal
+      (λ i f got allowed g. let there : i < length history = get-below history i f got in
+      spent-entry (object_before permits history i) f k (waits-apart i (omega arith)) allowed g)
       (suc m) gone (n - suc m) n (omega arith) (omega arith) in
-      gone-ends_not (object_before permits history n) e k (legal.at n e gets_e) ends_e still
+      gone-ends_not (object_before permits history n) e k (waits-apart n (omega arith)) (legal.at n e gets_e) ends_e
+      still
 
 pub every-wait-ends-once : EveryWaitEndsOnce
 every-wait-ends-once permits history k m n d e legal gets_d gets_e ends_d ends_e = go (cases_order m n)
@@ -64,13 +66,18 @@ numbered-entry : (low : ℕ) (o : Semaphore) (e : Entry) → IsAllowed o e → A
     → AreNumberedFrom low (after_entry o e)
 numbered-entry low o (entry.TakeNow c) allowed from = from
 numbered-entry low o (entry.TakeDoor c) allowed from = from
-numbered-entry low o (entry.Enter c k) (stands, next) from =
-    rising-push waiting_key low o.next (record { wait = k; pass = c }) o.line next from
+numbered-entry low o (entry.Enter c k) (stands, next, may) from = go (has_spoiled k o.spoiled)
+  where
+    go : (b : Bool) → AreNumberedFrom low (enters_by o c k b)
+    go true = rising-higher waiting_key low o.next (o.next + 1) o.line (omega arith) from
+    go false = rising-push waiting_key low o.next (record { wait = k; pass = c }) o.line next from
 numbered-entry low o (entry.TryGot c) allowed from = from
 numbered-entry low o (entry.TryBusy c) allowed from = from
 numbered-entry low o (entry.GiveFreed c) allowed from = from
 numbered-entry low o (entry.GiveSent c) allowed from = from
 numbered-entry low o (entry.Deliver k) allowed from = rising-without waiting_key k low o.next o.line from
+numbered-entry low o (entry.Spoil c k) allowed from = rising-without waiting_key k low o.next o.line from
+numbered-entry low o (entry.Undo c k) allowed from = from
 numbered-entry low o (entry.Leave c k) allowed from =
     numbered-turned low (record o { line = without waiting_key k o.line })
     (rising-without waiting_key k low o.next o.line from)

@@ -12,6 +12,7 @@ pub mod QueueSettled
 pub mod QueueStepSettled
 pub mod QueueUnmade
 pub mod QueueAsRefused
+pub mod QueueAsUnbroken
 pub mod QueueCells
 pub mod QueueStages
 pub mod QueueSteps
@@ -23,10 +24,12 @@ pub mod SemaphoreNames
 pub mod SemaphoreTable
 pub mod SemaphoreAnswers
 pub mod SemaphoreShown
+pub mod SemaphoreCores
 pub mod SemaphoreSteps
 pub mod SemaphoreRuns
 pub mod SemaphoreWords
 pub mod SemaphoreCalls
 pub mod SemaphoreLaws
+pub mod BrokenCells
 pub mod Resting
 pub mod SoleCaller

@@ -25,10 +25,12 @@ OnePermitGoesToTheFirst =
     → slice_get history n ≡ Some (entry.Deliver k)
     → (object_before permits history n).way ≡ 1 → IsFirst k (object_before permits history n).line
 
--- the entry ends wait k in the line: it is served, or it leaves
+-- the entry ends wait k in the line: it is served, or it leaves, or its number is broken
 abbrev pub EndsWait : ℕ → Entry → Type 0
 EndsWait k (entry.Deliver j) = j ≡ k
 EndsWait k (entry.Leave c j) = j ≡ k
+EndsWait k (entry.Spoil c j) = j ≡ k
+EndsWait k (entry.Undo c j) = ⊥
 EndsWait k (entry.TakeNow c) = ⊥
 EndsWait k (entry.TakeDoor c) = ⊥
 EndsWait k (entry.Enter c j) = ⊥
@@ -60,6 +62,8 @@ Collects k (entry.TryBusy c) = ⊥
 Collects k (entry.GiveFreed c) = ⊥
 Collects k (entry.GiveSent c) = ⊥
 Collects k (entry.Deliver j) = ⊥
+Collects k (entry.Spoil c j) = ⊥
+Collects k (entry.Undo c j) = ⊥
 Collects k (entry.Leave c j) = ⊥
 Collects k (entry.LookPending c j) = ⊥
 
@@ -90,3 +94,52 @@ ServiceIsInOrder =
     → DeliversOneByOne permits history
     → slice_get history m ≡ Some (entry.Deliver j) → slice_get history n ≡ Some (entry.Deliver k)
     → m < n → j < k
+
+-- the entry breaks number k
+abbrev pub Breaks : ℕ → Entry → Type 0
+Breaks k (entry.Spoil c j) = j ≡ k
+Breaks k (entry.Undo c j) = ⊥
+Breaks k (entry.Deliver j) = ⊥
+Breaks k (entry.Leave c j) = ⊥
+Breaks k (entry.TakeNow c) = ⊥
+Breaks k (entry.TakeDoor c) = ⊥
+Breaks k (entry.Enter c j) = ⊥
+Breaks k (entry.TryGot c) = ⊥
+Breaks k (entry.TryBusy c) = ⊥
+Breaks k (entry.GiveFreed c) = ⊥
+Breaks k (entry.GiveSent c) = ⊥
+Breaks k (entry.Late c j) = ⊥
+Breaks k (entry.LookGranted c j) = ⊥
+Breaks k (entry.LookPending c j) = ⊥
+
+-- the caller of number k comes to it, and it is broken
+abbrev pub FindsBroken : ℕ → Entry → Type 0
+FindsBroken k (entry.Undo c j) = j ≡ k
+FindsBroken k (entry.Spoil c j) = ⊥
+FindsBroken k (entry.Deliver j) = ⊥
+FindsBroken k (entry.Leave c j) = ⊥
+FindsBroken k (entry.TakeNow c) = ⊥
+FindsBroken k (entry.TakeDoor c) = ⊥
+FindsBroken k (entry.Enter c j) = ⊥
+FindsBroken k (entry.TryGot c) = ⊥
+FindsBroken k (entry.TryBusy c) = ⊥
+FindsBroken k (entry.GiveFreed c) = ⊥
+FindsBroken k (entry.GiveSent c) = ⊥
+FindsBroken k (entry.Late c j) = ⊥
+FindsBroken k (entry.LookGranted c j) = ⊥
+FindsBroken k (entry.LookPending c j) = ⊥
+
+-- a number is broken once
+abbrev pub EveryNumberIsBrokenOnce : Type 0
+EveryNumberIsBrokenOnce =
+    (permits : ℕ) (history : List Entry) (k m n : ℕ) (d e : Entry) → IsLegal permits history
+    → slice_get history m ≡ Some d → slice_get history n ≡ Some e → Breaks k d → Breaks k e
+    → m ≡ n
+
+-- and found so once
+abbrev pub EveryBreakIsFoundOnce : Type 0
+EveryBreakIsFoundOnce =
+    (permits : ℕ) (history : List Entry) (k m n : ℕ) (d e : Entry) → IsLegal permits history
+    → slice_get history m ≡ Some d → slice_get history n ≡ Some e → FindsBroken k d
+    → FindsBroken k e
+    → m ≡ n

@@ -16,11 +16,12 @@ use Rattle.cqs_core.specs.declared.outcomes.Outcome.{Outcome}
 use Rattle.cqs_core.specs.declared.outcomes.Outcome.TheVariants as outcome
 use Rattle.cqs_core.specs.QueueState.{Queue}
 use Rattle.cqs_core.specs.QueueMoves as move
-use Rattle.cqs_core.specs.QueueMoves.{Move, move_queue}
+use Rattle.cqs_core.specs.QueueMoves.{Move, move_queue, now_doing, with_cell, at_state}
 
--- A core: the permits that it was made with, the state word, what each pass holds, the
--- history, and the queue part.
+-- A core: whether it is synchronous, the permits that it was made with, the state word, what each
+-- pass holds, the history, and the queue part.
 pub record Shape : Type 0 where
+  pub sync : Bool
   pub permits : ℕ
   pub state : ℤ
   pub held : List ℕ
@@ -54,6 +55,14 @@ records s e = record s { history = s.history ++ e ∷ [] }
 abbrev pub moves : Shape → Move → Shape
 moves s m = record s { queue = move_queue s.queue m }
 
+-- the pass goes on to do this, and the cell of the number becomes this one
+abbrev pub writes : Shape → ℕ → ℕ → CoreCell → Doing → Shape
+writes s p k cell d = record s { queue = now_doing (with_cell s.queue k cell) p d }
+
+-- the pass goes on to do this
+abbrev pub turns : Shape → ℕ → Doing → Shape
+turns s p d = record s { queue = now_doing s.queue p d }
+
 abbrev pub answers : Shape → Outcome → Option Stepped
 answers s o = Some (record { shape = s; outcome = o })
 
@@ -78,6 +87,7 @@ take_row s p (Some (doing.Drawn n)) = None
 take_row s p (Some doing.Owes) = None
 take_row s p (Some (doing.Ticket n)) = None
 take_row s p (Some (doing.Leaving n)) = None
+take_row s p (Some (doing.Watching n)) = None
 take_row s p (Some (doing.Decided n on)) = None
 take_row s p None = None
 
@@ -92,6 +102,7 @@ try_load_row s p (Some (doing.Drawn n)) = None
 try_load_row s p (Some doing.Owes) = None
 try_load_row s p (Some (doing.Ticket n)) = None
 try_load_row s p (Some (doing.Leaving n)) = None
+try_load_row s p (Some (doing.Watching n)) = None
 try_load_row s p (Some (doing.Decided n on)) = None
 try_load_row s p None = None
 
@@ -108,6 +119,7 @@ try_swap_row s p (Some (doing.Drawn n)) = None
 try_swap_row s p (Some doing.Owes) = None
 try_swap_row s p (Some (doing.Ticket n)) = None
 try_swap_row s p (Some (doing.Leaving n)) = None
+try_swap_row s p (Some (doing.Watching n)) = None
 try_swap_row s p (Some (doing.Decided n on)) = None
 try_swap_row s p None = None
 
@@ -125,6 +137,7 @@ draw_row s p (Some (doing.Drawn n)) = None
 draw_row s p (Some doing.Owes) = None
 draw_row s p (Some (doing.Ticket n)) = None
 draw_row s p (Some (doing.Leaving n)) = None
+draw_row s p (Some (doing.Watching n)) = None
 draw_row s p (Some (doing.Decided n on)) = None
 draw_row s p None = None
 
@@ -133,9 +146,15 @@ install_at s p k cell state.Empty = answers (moves s (move.install p k cell)) (o
 install_at s p k cell state.Value =
     answers (records (gains (moves s (move.take_value p k cell)) p) (entry.Deliver k))
     (outcome.Took k)
+install_at s p k cell state.Broken =
+    answers
+    (records
+    (writes s p k (record { state = state.Broken; owner = cell.owner; collected = true })
+    doing.Idle)
+    (entry.Undo p k))
+    (outcome.Broke k)
 install_at s p k cell state.Waiter = None
 install_at s p k cell state.Taken = None
-install_at s p k cell state.Broken = None
 install_at s p k cell state.Resumed = None
 install_at s p k cell state.Cancelling = None
 install_at s p k cell state.Delegated = None
@@ -151,6 +170,7 @@ install_row s p (Some doing.Door) = None
 install_row s p (Some doing.Owes) = None
 install_row s p (Some (doing.Ticket n)) = None
 install_row s p (Some (doing.Leaving n)) = None
+install_row s p (Some (doing.Watching n)) = None
 install_row s p (Some (doing.Decided n on)) = None
 install_row s p None = None
 
@@ -169,6 +189,7 @@ give_row s p (Some (doing.Drawn n)) = None
 give_row s p (Some doing.Owes) = None
 give_row s p (Some (doing.Ticket n)) = None
 give_row s p (Some (doing.Leaving n)) = None
+give_row s p (Some (doing.Watching n)) = None
 give_row s p (Some (doing.Decided n on)) = None
 give_row s p None = None
 
@@ -184,14 +205,21 @@ reach_row s p (Some doing.Door) = None
 reach_row s p (Some (doing.Drawn n)) = None
 reach_row s p (Some (doing.Ticket n)) = None
 reach_row s p (Some (doing.Leaving n)) = None
+reach_row s p (Some (doing.Watching n)) = None
 reach_row s p (Some (doing.Decided n on)) = None
 reach_row s p None = None
 
 abbrev pub meet_at : Shape → ℕ → ℕ → CoreCell → CoreState → Option Stepped
 meet_at s p k cell state.Waiter =
     answers (records (moves s (move.serve p k cell)) (entry.Deliver k)) (outcome.Served k)
-meet_at s p k cell state.Empty = answers (moves s (move.leave_value p k cell)) (outcome.Left k)
-meet_at s p k cell state.Cancelling = answers (moves s (move.delegate p k cell)) (outcome.Left k)
+meet_at s p k cell state.Empty =
+    if s.sync
+    then answers (writes s p k (at_state cell state.Value) (doing.Watching k)) (outcome.Left k)
+    else answers (moves s (move.leave_value p k cell)) (outcome.Left k)
+meet_at s p k cell state.Cancelling =
+    if s.sync
+    then answers s (outcome.Handling k)
+    else answers (moves s (move.delegate p k cell)) (outcome.Left k)
 meet_at s p k cell state.Cancelled = answers (moves s (move.pass_over p k cell)) (outcome.Passed k)
 meet_at s p k cell state.Refused = answers (moves s (move.meet_refused p k cell)) (outcome.Void k)
 meet_at s p k cell state.Value = None
@@ -209,8 +237,62 @@ meet_row s p (Some doing.Door) = None
 meet_row s p (Some (doing.Drawn n)) = None
 meet_row s p (Some doing.Owes) = None
 meet_row s p (Some (doing.Leaving n)) = None
+meet_row s p (Some (doing.Watching n)) = None
 meet_row s p (Some (doing.Decided n on)) = None
 meet_row s p None = None
+
+abbrev pub see_at : Shape → ℕ → ℕ → CoreState → Option Stepped
+see_at s p k state.Value = answers s outcome.Pending
+see_at s p k state.Taken = answers (turns s p doing.Idle) (outcome.Served k)
+see_at s p k state.Empty = None
+see_at s p k state.Waiter = None
+see_at s p k state.Broken = None
+see_at s p k state.Resumed = None
+see_at s p k state.Cancelling = None
+see_at s p k state.Delegated = None
+see_at s p k state.Cancelled = None
+see_at s p k state.Refused = None
+
+abbrev pub see_row : Shape → ℕ → Option Doing → Option Stepped
+see_row s p (Some (doing.Watching k)) =
+    option_and_then (λ cell. see_at s p k cell.state) (slice_get s.queue.cells k)
+see_row s p (Some doing.Idle) = None
+see_row s p (Some (doing.TryAt v)) = None
+see_row s p (Some doing.Door) = None
+see_row s p (Some (doing.Drawn n)) = None
+see_row s p (Some doing.Owes) = None
+see_row s p (Some (doing.Ticket n)) = None
+see_row s p (Some (doing.Leaving n)) = None
+see_row s p (Some (doing.Decided n on)) = None
+see_row s p None = None
+
+abbrev pub break_at : Shape → ℕ → ℕ → CoreCell → CoreState → Option Stepped
+break_at s p k cell state.Value =
+    answers
+    (records (gains (writes s p k (at_state cell state.Broken) doing.Idle) p) (entry.Spoil p k))
+    (outcome.Broke k)
+break_at s p k cell state.Taken = answers (turns s p doing.Idle) (outcome.Served k)
+break_at s p k cell state.Empty = None
+break_at s p k cell state.Waiter = None
+break_at s p k cell state.Broken = None
+break_at s p k cell state.Resumed = None
+break_at s p k cell state.Cancelling = None
+break_at s p k cell state.Delegated = None
+break_at s p k cell state.Cancelled = None
+break_at s p k cell state.Refused = None
+
+abbrev pub break_row : Shape → ℕ → Option Doing → Option Stepped
+break_row s p (Some (doing.Watching k)) =
+    option_and_then (λ cell. break_at s p k cell cell.state) (slice_get s.queue.cells k)
+break_row s p (Some doing.Idle) = None
+break_row s p (Some (doing.TryAt v)) = None
+break_row s p (Some doing.Door) = None
+break_row s p (Some (doing.Drawn n)) = None
+break_row s p (Some doing.Owes) = None
+break_row s p (Some (doing.Ticket n)) = None
+break_row s p (Some (doing.Leaving n)) = None
+break_row s p (Some (doing.Decided n on)) = None
+break_row s p None = None
 
 -- the pass is the owner of the cell's number
 abbrev pub is_owner : ℕ → Option ℕ → Bool
@@ -248,6 +330,7 @@ leave_row s p k (Some (doing.Drawn n)) = None
 leave_row s p k (Some doing.Owes) = None
 leave_row s p k (Some (doing.Ticket n)) = None
 leave_row s p k (Some (doing.Leaving n)) = None
+leave_row s p k (Some (doing.Watching n)) = None
 leave_row s p k (Some (doing.Decided n on)) = None
 leave_row s p k None = None
 
@@ -264,6 +347,7 @@ decide_row s p (Some doing.Door) = None
 decide_row s p (Some (doing.Drawn n)) = None
 decide_row s p (Some doing.Owes) = None
 decide_row s p (Some (doing.Ticket n)) = None
+decide_row s p (Some (doing.Watching n)) = None
 decide_row s p (Some (doing.Decided n on)) = None
 decide_row s p None = None
 
@@ -295,6 +379,7 @@ settle_row s p (Some (doing.Drawn n)) = None
 settle_row s p (Some doing.Owes) = None
 settle_row s p (Some (doing.Ticket n)) = None
 settle_row s p (Some (doing.Leaving n)) = None
+settle_row s p (Some (doing.Watching n)) = None
 settle_row s p None = None
 
 abbrev pub look_at : Shape → ℕ → ℕ → CoreCell → CoreState → Option Stepped
@@ -323,6 +408,7 @@ look_row s p k (Some (doing.Drawn n)) = None
 look_row s p k (Some doing.Owes) = None
 look_row s p k (Some (doing.Ticket n)) = None
 look_row s p k (Some (doing.Leaving n)) = None
+look_row s p k (Some (doing.Watching n)) = None
 look_row s p k (Some (doing.Decided n on)) = None
 look_row s p k None = None
 
@@ -336,6 +422,8 @@ step s (event.Install p) = install_row s p (slice_get s.queue.doing p)
 step s (event.Give p) = give_row s p (slice_get s.queue.doing p)
 step s (event.Reach p) = reach_row s p (slice_get s.queue.doing p)
 step s (event.Meet p) = meet_row s p (slice_get s.queue.doing p)
+step s (event.See p) = see_row s p (slice_get s.queue.doing p)
+step s (event.Break p) = break_row s p (slice_get s.queue.doing p)
 step s (event.Leave p k) = leave_row s p k (slice_get s.queue.doing p)
 step s (event.Decide p) = decide_row s p (slice_get s.queue.doing p)
 step s (event.Settle p) = settle_row s p (slice_get s.queue.doing p)

@@ -19,6 +19,10 @@ pub enum Event {
     Reach { pass: u32 },
     /// Resume: the drawn cell is served, gets the value, is passed over, or ends the resumption.
     Meet { pass: u32 },
+    /// Resume, synchronous: the cell in which the value was left is loaded.
+    See { pass: u32 },
+    /// Resume, synchronous: the value is taken back, and its cell is broken; or it was taken.
+    Break { pass: u32 },
     /// Cancel: the waiter begins to leave, or finds itself served.
     Leave { pass: u32, wait: u64 },
     /// Cancel: one is added to the state, which answers whether resumes pass over the cell.

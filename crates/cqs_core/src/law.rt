@@ -2,6 +2,8 @@
 
 ghost use Rattle.cqs_core.specs.SemaphoreRuns.{EveryRunIsLegal};
 ghost use Rattle.cqs_core.specs.SemaphoreSteps.{EveryStepKeepsTheCore};
+ghost use Rattle.cqs_core.specs.SemaphoreCores.{EveryRunOfEitherIsLegal};
+ghost use Rattle.cqs_core.specs.BrokenCells.{EveryBrokenCellWasBrokenOnce};
 
 /// On every run, however its events and passes mix, the core shows a fair semaphore.
 ///
@@ -12,6 +14,18 @@ ghost use Rattle.cqs_core.specs.SemaphoreSteps.{EveryStepKeepsTheCore};
 /// without naming any schedule.
 pub fn every_run_is_legal()
     ensures { EveryRunIsLegal }
+{}
+
+/// The same of synchronous cores beside the others, with the numbers that they break: the history
+/// is legal with its entries of broken numbers, and the core stands for the semaphore after it.
+pub fn every_run_of_either_is_legal()
+    ensures { EveryRunOfEitherIsLegal }
+{}
+
+/// On every run, each broken cell fails one resume and one suspend: its number was broken once, and
+/// its suspend found it so once where the cell is collected, and never where it isn't.
+pub fn broken_cells_were_broken_once()
+    ensures { EveryBrokenCellWasBrokenOnce }
 {}
 
 /// Each step of the queue that a semaphore makes, wherever it may be made, leads from core to core,

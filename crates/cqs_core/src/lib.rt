@@ -8,6 +8,7 @@
 //!    door                   <---     the passes that must wait and have no number yet
 //!    line, by number        <---     the cells that are Empty, Waiter or Value, or being left
 //!    served                 <---     the cells that are Resumed, until their permit is looked at
+//!    spoiled                <---     the cells that are Broken, until their suspend has come
 //!    history of entries     <---     events: one atomic step of one pass each, with its entry
 //! ```
 //!
@@ -16,6 +17,11 @@
 //! step that any primitive may make of them, as one table. Those that begin with `Semaphore` have
 //! the plain object, the table of events, and what it means that a core shows the object. Other
 //! primitives stand on the first part, with objects of their own.
+//!
+//! A core is synchronous or not. Where it is, a resume that left its value in a cell watches it,
+//! and may take it back and break the cell; then this resume and the suspend of the cell both fail.
+//! Read with each broken cell as one whose value is still there, or was taken, such a queue makes
+//! the moves of the other kind, so what is shown of those holds of it.
 //!
 //! A law is a function that does nothing: it is proved where the contract of a function says it.
 #![tactic(auto)]
@@ -38,10 +44,13 @@ pub use doings::Doing;
 pub use entries::Entry;
 pub use errors::CoreError;
 pub use events::Event;
-pub use law::{every_run_is_legal, semaphore_steps_keep_the_core};
+pub use law::{
+    broken_cells_were_broken_once, every_run_is_legal, every_run_of_either_is_legal,
+    semaphore_steps_keep_the_core,
+};
 pub use laws::{
-    one_permit_goes_to_the_first, permits_are_collected_once, permits_are_conserved,
-    service_is_in_order, waits_end_once,
+    numbers_are_broken_once, one_permit_goes_to_the_first, permits_are_collected_once,
+    permits_are_conserved, service_is_in_order, waits_end_once,
 };
 pub use outcomes::Outcome;
 pub use queue_laws::{

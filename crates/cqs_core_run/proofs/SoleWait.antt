@@ -26,7 +26,7 @@ use Rattle.cqs_core.proofs.EachAtLemmas.{EachAt-write}
 use Rattle.cqs_core.proofs.Places.{get-set_here}
 use Rattle.cqs_core.proofs.SoleLine.{found-in_line, gone-from_line}
 use Rattle.cqs_core_run.proofs.SoleStart.{IsSoleCourse, sole-along, idle-again, write-thrice, cases_idle, pass-there}
-use Rattle.cqs_core.proofs.StepKeeps.{owns-from}
+use Rattle.cqs_core.proofs.EitherTable.{owns-from}
 use Rattle.cqs_core.proofs.WaitCells.{IsOwnWait, has-wait, waiter-waits, resumed-served}
 
 -- the line has the wait of a cell that waits, and not that of one that was served

@@ -3,7 +3,7 @@
 //!
 //! A `Table` has the fields and one method for each row of the table of events. A `Core` is a table
 //! with the invariant that it is a core: its history is legal, and it shows the plain semaphore
-//! after it.
+//! after it. It is synchronous or not, as it was made.
 #![tactic(auto)]
 
 mod runnable;

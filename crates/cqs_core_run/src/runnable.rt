@@ -1,9 +1,10 @@
 //! The runnable core: every core that is made and changed here shows a fair semaphore.
 
-ghost use Rattle.std.specs.Prelude.{◌≡◌, ◌+◌, ◌<◌, ◌≤◌, Err, IfNone, IfOk, IfSome, IsErrOf, OnOk, OnErr, slice_get};
+ghost use Rattle.std.specs.Prelude.{◌≡◌, ◌+◌, ◌<◌, ◌≤◌, true, false, Err, IfNone, IfOk, IfSome, IsErrOf, OnOk, OnErr, slice_get};
 ghost use Rattle.cqs_core.specs.SemaphoreAnswers.{Makes, MakesReady, Opens};
 ghost use Rattle.cqs_core.specs.SemaphoreCalls.{MakesCall, MakesCallReady, course};
 ghost use Rattle.cqs_core.specs.SemaphoreEntries.{object_after, IsBalanced, IsLegal};
+ghost use Rattle.cqs_core.specs.SemaphoreCores.{IsEitherCore, OpensEither, shown_by_either};
 ghost use Rattle.cqs_core.specs.SemaphoreShown.{IsCore, Shows, shown_semaphore};
 ghost use Rattle.cqs_core.specs.SemaphoreTable.{step};
 ghost use Rattle.cqs_core.specs.Resting.{IsIdle, IsResting};
@@ -34,13 +35,13 @@ pub struct Core {
 
 impl Model for Core {
     ghost use Rattle.cqs_core.specs.SemaphoreAnswers.{Room};
-    ghost use Rattle.cqs_core.specs.SemaphoreShown.{IsCore};
+    ghost use Rattle.cqs_core.specs.SemaphoreCores.{IsEitherCore};
 
     ghost Value = { Room };
 
     ghost view = { λ core. core.table };
 
-    ghost invariant = { λ core. IsCore core.table.shape };
+    ghost invariant = { λ core. IsEitherCore core.table.shape };
 }
 
 impl Core {
@@ -54,7 +55,20 @@ impl Core {
         if permits == 0 || permits > MOST_PERMITS || passes == 0 || passes > MOST_PASSES {
             return Err(CoreError::BadSize);
         }
-        let table = Table::new(alloc, permits, passes)?;
+        let table = Table::new(alloc, false, permits, passes)?;
+        Ok(Core { table })
+    }
+
+    /// A synchronous core, with the same numbers: a resume watches the value that it left, and may
+    /// take it back and break its cell.
+    pub fn new_sync(alloc: Global, permits: u32, passes: u32) -> Result<Self, CoreError>
+        ensures made { OpensEither true permits passes result }
+        ensures rests { IfOk result (λ core. IsResting core.shape × NoneTaken core.shape) }
+    {
+        if permits == 0 || permits > MOST_PERMITS || passes == 0 || passes > MOST_PASSES {
+            return Err(CoreError::BadSize);
+        }
+        let table = Table::new(alloc, true, permits, passes)?;
         Ok(Core { table })
     }
 
@@ -84,9 +98,12 @@ impl Core {
 
     /// Makes the events of a call, one after the other, until its pass is idle again.
     ///
+    /// Where every pass is idle, no resume meets a cell whose value it would have to watch, nor one
+    /// to which it would have to come back: so a synchronous core makes each call as another does.
+    ///
     /// Room for all of them is made first, so that `Memory` leaves the core as it was.
     pub fn run_call(&mut self, call: Call) -> Result<Reply, CoreError>
-        requires { IsResting self.old.shape }
+        requires resting { IsResting self.old.shape }
         ensures made { MakesCall result (course self.old.shape call) self.old.shape self.new.shape }
         ensures sole { IfOk result
             (λ answer. IsSoleCall self.old.shape call answer self.new.shape) }
@@ -128,6 +145,15 @@ impl Core {
         ensures refused { IfNone result (IsSoleRefusal self.old.shape call) }
     {
         self.table.run_ready(call)
+    }
+
+    /// Whether every pass is idle, and a further number may be drawn: so that a whole call may be
+    /// made.
+    pub fn is_resting(&self) -> bool
+        ensures rests { result ≡ true → IsResting self.now.shape }
+        ensures busy { result ≡ false → ¬ IsResting self.now.shape }
+    {
+        self.table.is_resting()
     }
 
     /// The state word: the free permits, less those who wait with none on its way.
@@ -176,7 +202,8 @@ impl Core {
 
     /// Every core is one: its history is legal, and it shows the semaphore after it.
     fn is_core(&self)
-        ensures core { IsCore self.now.shape }
+        ensures core { IsEitherCore self.now.shape }
+        ensures plain { self.now.shape.sync ≡ false → IsCore self.now.shape }
         ensures shows { Shows self.now.shape
             (object_after self.now.shape.permits self.now.shape.history) }
     {
@@ -191,6 +218,9 @@ impl Core {
         // that the core shows.
         ensures legal { IsLegal self.now.shape.permits self.now.shape.history }
         ensures object { object_after self.now.shape.permits self.now.shape.history
+            ≡ shown_by_either self.now.shape }
+        ensures plain { self.now.shape.sync ≡ false
+            → object_after self.now.shape.permits self.now.shape.history
             ≡ shown_semaphore self.now.shape }
         ensures shows { Shows self.now.shape
             (object_after self.now.shape.permits self.now.shape.history) }

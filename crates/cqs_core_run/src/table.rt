@@ -4,12 +4,13 @@
 //! of them takes memory: `reserve` makes room before. What makes a table a core of a fair
 //! semaphore is told in `runnable`.
 
-ghost use Rattle.std.specs.Prelude.{◌≡◌, ◌+◌, ◌-◌, ◌≤◌, ◌<◌, OnOk, OnErr, Err, slice_get, length, vec_len, vec_capacity, replicate, IfOk, IfSome, pos};
+ghost use Rattle.std.specs.Prelude.{◌≡◌, ◌+◌, ◌-◌, ◌≤◌, ◌<◌, OnOk, OnErr, Err, slice_get, length, vec_len, vec_capacity, replicate, IfOk, IfSome, pos, true, false};
 ghost use Rattle.cqs_core.specs.declared.events.Event.TheVariants as event;
 ghost use Rattle.cqs_core.specs.QueueMoves.{cells_drawn, cells_reached};
 ghost use Rattle.cqs_core.specs.SemaphoreAnswers.{MakesReady, HasPassed};
 ghost use Rattle.cqs_core.specs.SemaphoreTable.{step, is_with as wait_is_with};
-ghost use Rattle.cqs_core.specs.SemaphoreShown.{opening_shape};
+ghost use Rattle.cqs_core.specs.SemaphoreCores.{opening_of};
+ghost use Rattle.cqs_core.specs.Resting.{IsResting};
 ghost use Rattle.cqs_core.specs.SemaphoreWords.{FitsWords};
 
 use cqs_core::{CoreCell, CoreState, Doing, Entry, Event, Outcome};
@@ -25,6 +26,7 @@ const LAST_NUMBER: u64 = 1_099_511_627_775;
 /// What the events change.
 #[derive(Drop)]
 pub struct Table {
+    sync: bool,
     permits: u32,
     state: i64,
     suspends: u64,
@@ -43,6 +45,7 @@ impl Model for Table {
 
     ghost view = { λ t. record {
       shape = record {
+        sync = t.sync;
         permits = t.permits;
         state = t.state;
         held = t.held.items;
@@ -61,10 +64,11 @@ impl Model for Table {
 
 impl Table {
     /// A table before any event: every permit is free, and every pass is idle.
-    pub fn new(alloc: Global, permits: u32, passes: u32) -> Result<Self, AllocError>
-        ensures { IfOk result (λ table. table.shape ≡ opening_shape permits passes) }
+    pub fn new(alloc: Global, sync: bool, permits: u32, passes: u32) -> Result<Self, AllocError>
+        ensures { IfOk result (λ table. table.shape ≡ opening_of sync permits passes) }
     {
         Ok(Table {
+            sync,
             permits,
             state: i64::from(permits),
             suspends: 0,
@@ -112,6 +116,14 @@ impl Table {
         ensures { result ≡ slice_get self.now.shape.queue.doing pass }
     {
         self.doing.get(pass as usize).copied()
+    }
+
+    /// Whether every pass is idle, and a further number may be drawn.
+    pub fn is_resting(&self) -> bool
+        ensures rests { result ≡ true → IsResting self.now.shape }
+        ensures busy { result ≡ false → ¬ IsResting self.now.shape }
+    {
+        self.suspends < LAST_NUMBER && self.doing.iter().all(|doing| matches!(doing, Doing::Idle))
     }
 
     /// The cell of a number; none where neither counter has passed it.
@@ -249,9 +261,15 @@ impl Table {
                 self.history.push_reserved(Entry::Deliver { wait: number });
                 Some(Outcome::Took(number))
             }
+            CoreState::Broken => {
+                self.cells[number as usize].collected = true;
+                self.doing[at] = Doing::Idle;
+                self.history
+                    .push_reserved(Entry::Undo { pass, wait: number });
+                Some(Outcome::Broke(number))
+            }
             CoreState::Waiter
             | CoreState::Taken
-            | CoreState::Broken
             | CoreState::Resumed
             | CoreState::Cancelling
             | CoreState::Delegated
@@ -328,9 +346,14 @@ impl Table {
             }
             CoreState::Empty => {
                 self.cells[number as usize].state = CoreState::Value;
-                self.doing[at] = Doing::Idle;
+                self.doing[at] = if self.sync {
+                    Doing::Watching(number)
+                } else {
+                    Doing::Idle
+                };
                 Some(Outcome::Left(number))
             }
+            CoreState::Cancelling if self.sync => Some(Outcome::Handling(number)),
             CoreState::Cancelling => {
                 self.cells[number as usize].state = CoreState::Delegated;
                 self.doing[at] = Doing::Idle;
@@ -349,6 +372,67 @@ impl Table {
             | CoreState::Broken
             | CoreState::Resumed
             | CoreState::Delegated => None,
+        }
+    }
+
+    /// Resume, synchronous: the cell in which the value was left is loaded.
+    pub fn see(&mut self, pass: u32) -> Option<Outcome>
+        ensures { MakesReady (step self.old.shape (event.See pass)) result self.old self.new }
+    {
+        let at = pass as usize;
+        let Some(Doing::Watching(number)) = self.doing(pass) else {
+            return None;
+        };
+        let cell = self.cell(number)?;
+        match cell.state {
+            CoreState::Value => Some(Outcome::Pending),
+            CoreState::Taken => {
+                self.doing[at] = Doing::Idle;
+                Some(Outcome::Served(number))
+            }
+            CoreState::Empty
+            | CoreState::Waiter
+            | CoreState::Broken
+            | CoreState::Resumed
+            | CoreState::Cancelling
+            | CoreState::Delegated
+            | CoreState::Cancelled
+            | CoreState::Refused => None,
+        }
+    }
+
+    /// Resume, synchronous: the value is taken back, and its cell is broken; or it was taken.
+    pub fn break_value(&mut self, pass: u32) -> Option<Outcome>
+        requires fits { FitsWords self.old.shape }
+        requires room { 1 ≤ self.old.spare }
+        ensures { MakesReady (step self.old.shape (event.Break pass)) result self.old self.new }
+    {
+        let at = pass as usize;
+        let Some(Doing::Watching(number)) = self.doing(pass) else {
+            return None;
+        };
+        let cell = self.cell(number)?;
+        match cell.state {
+            CoreState::Value => {
+                self.cells[number as usize].state = CoreState::Broken;
+                self.held[at] += 1;
+                self.doing[at] = Doing::Idle;
+                self.history
+                    .push_reserved(Entry::Spoil { pass, wait: number });
+                Some(Outcome::Broke(number))
+            }
+            CoreState::Taken => {
+                self.doing[at] = Doing::Idle;
+                Some(Outcome::Served(number))
+            }
+            CoreState::Empty
+            | CoreState::Waiter
+            | CoreState::Broken
+            | CoreState::Resumed
+            | CoreState::Cancelling
+            | CoreState::Delegated
+            | CoreState::Cancelled
+            | CoreState::Refused => None,
         }
     }
 
@@ -502,6 +586,8 @@ impl Table {
             Event::Give { pass } => self.give(pass),
             Event::Reach { pass } => self.reach(pass),
             Event::Meet { pass } => self.meet(pass),
+            Event::See { pass } => self.see(pass),
+            Event::Break { pass } => self.break_value(pass),
             Event::Leave { pass, wait } => self.leave(pass, wait),
             Event::Decide { pass } => self.decide(pass),
             Event::Settle { pass } => self.settle(pass),

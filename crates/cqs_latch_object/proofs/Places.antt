@@ -36,6 +36,7 @@ one-pass k (doing.Drawn j) = omega arith
 one-pass k doing.Owes = omega arith
 one-pass k (doing.Ticket j) = omega arith
 one-pass k (doing.Leaving j) = omega arith
+one-pass k (doing.Watching j) = omega arith
 one-pass k (doing.Decided j true) = omega arith
 one-pass k (doing.Decided j false) = omega arith
 

@@ -88,6 +88,7 @@ is_opening (doing.Drawn k) = false
 is_opening doing.Owes = false
 is_opening (doing.Ticket k) = false
 is_opening (doing.Leaving k) = false
+is_opening (doing.Watching k) = false
 is_opening (doing.Decided k on) = false
 
 -- the pass has loaded the count as above 0, and not gone on from there
@@ -99,6 +100,7 @@ has_loaded (doing.Drawn k) = false
 has_loaded doing.Owes = false
 has_loaded (doing.Ticket k) = false
 has_loaded (doing.Leaving k) = false
+has_loaded (doing.Watching k) = false
 has_loaded (doing.Decided k on) = false
 
 abbrev pub one_where : Bool → ℕ

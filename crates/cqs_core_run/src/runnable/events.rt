@@ -1,8 +1,9 @@
 //! Lists of events, made one after the other, with their outcomes in order.
 
-ghost use Rattle.std.specs.Prelude.{◌≡◌, ◌⊎◌, ◌+◌, ◌^◌, ◌<◌, ◌≤◌, [], ◌∷◌, ◌++◌, Some, Err, length, IfErr, IsErrOf, OnOk, OnErr};
+ghost use Rattle.std.specs.Prelude.{◌≡◌, false, ◌⊎◌, ◌+◌, ◌^◌, ◌<◌, ◌≤◌, [], ◌∷◌, ◌++◌, Some, Err, length, IfErr, IsErrOf, OnOk, OnErr};
 ghost use Rattle.cqs_core.specs.SemaphoreAnswers.{Makes};
 ghost use Rattle.cqs_core.specs.SemaphoreEntries.{object_after};
+ghost use Rattle.cqs_core.specs.SemaphoreCores.{IsEitherCore};
 ghost use Rattle.cqs_core.specs.SemaphoreShown.{IsCore, Shows};
 ghost use Rattle.cqs_core.specs.SemaphoreTable.{step};
 ghost use Rattle.cqs_core_run.specs.EventRuns.{MakesAll, run_at, run_event};
@@ -131,7 +132,8 @@ impl Core {
 
         // Whatever the events are, and wherever they stop, the history is legal, and the core shows
         // the semaphore after it.
-        ensures core { IsCore self.new.shape }
+        ensures core { IsEitherCore self.new.shape }
+        ensures plain { self.new.shape.sync ≡ false → IsCore self.new.shape }
         ensures shows { Shows self.new.shape
             (object_after self.new.shape.permits self.new.shape.history) }
 

@@ -1,6 +1,7 @@
 use Rattle.std.proofs.Common.{arith}
 use Rattle.cqs_core.specs.SemaphoreShown.{IsSize}
-use Rattle.cqs_core.proofs.OpenedCore.{opened-core}
+use Rattle.std.proofs.Common.{false}
+use Rattle.cqs_core.proofs.EitherRuns.{opened-either}
 use Rattle.cqs_core_run.proofs.runnable.Core.new.Goals as goal
 
 pub invariant_of-result : goal.invariant_of-result
@@ -11,4 +12,4 @@ invariant_of-result c =
       some_passes = omega arith;
       few_passes = omega arith;
     } in
-    rw c.in_ok-table.ensures (opened-core c.args.permits c.args.passes size)
+    rw c.in_ok-table.ensures (opened-either false c.args.permits c.args.passes size)

@@ -1,5 +1,6 @@
-use Rattle.cqs_core.proofs.CallsKeep.{core-fits, call_ready-core}
-use Rattle.cqs_core_run.proofs.SoleCalls.{calls-end, sole-ready, sole-refused, sole-shown}
+use Rattle.cqs_core.proofs.EitherFacts.{core-fits}
+use Rattle.cqs_core.proofs.CallsKeep.{call_ready-either}
+use Rattle.cqs_core_run.proofs.RestingCalls.{calls-end, sole-ready, sole-refused, sole-shown}
 use Rattle.cqs_core_run.proofs.runnable.Core.run_ready.Goals as goal
 
 pub run_ready-requires-clause-fits : goal.run_ready-requires-clause-fits
@@ -9,7 +10,7 @@ pub run_ready-requires-clause-ends : goal.run_ready-requires-clause-ends
 run_ready-requires-clause-ends c = calls-end _ c.args.call c.self.invariant (rw c.self.view_is c.requires.resting)
 
 pub invariant_of-self : goal.invariant_of-self
-invariant_of-self c = call_ready-core _ _ _ _ c.self.invariant c.run_ready.ensures
+invariant_of-self c = call_ready-either _ _ _ _ c.self.invariant c.run_ready.ensures
 
 pub returns-clause-sole : goal.returns-clause-sole
 returns-clause-sole c =

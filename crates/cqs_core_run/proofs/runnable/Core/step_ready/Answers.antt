@@ -1,5 +1,4 @@
-use Rattle.cqs_core.proofs.CallsKeep.{core-fits}
-use Rattle.cqs_core.proofs.StepKeeps.{ready-keeps}
+use Rattle.cqs_core.proofs.EitherFacts.{core-fits, ready-keeps}
 use Rattle.cqs_core_run.proofs.runnable.Core.step_ready.Goals as goal
 
 pub step_ready-requires-clause-fits : goal.step_ready-requires-clause-fits

@@ -1,5 +1,5 @@
 #!/usr/bin/env python3
-"""Writes data/random.schedules and data/histories.schedules, and prints the line of stdout on stalls.
+"""Writes data/random.schedules, data/histories.schedules and data/breaks.schedules, and prints the line of stdout on stalls.
 
 It has the table of events on plain lists, and a semaphore with its line as anybody would write it down, and knows
 nothing of the crates. Each entry that the table appends is replayed on the semaphore, which must allow it, and must
@@ -9,13 +9,19 @@ from pathlib import Path
 
 DATA = Path(__file__).parent / "data"
 VERBS = "take try_load try_swap draw install give reach meet leave decide settle look".split()
+# what a pass of a synchronous core is likely to do next, but for idle ones: a suspend is slow, so that resumes overtake it
+LIKELY = {
+    "TryAt": "try_swap", "Door": "draw - - -", "Drawn": "install - -", "Owes": "reach", "Ticket": "meet",
+    "Watching": "see see break", "Leaving": "decide - -", "Decided": "settle - - -",
+}
 IDLE = ("Idle",)
 
 
 class Table:
     """The table of events. A step answers its outcome and its entries, or None where the event may not come now."""
 
-    def __init__(self, permits):
+    def __init__(self, permits, is_sync=False):
+        self.is_sync = is_sync
         self.state = permits
         self.suspends = 0
         self.resumes = 0
@@ -46,9 +52,10 @@ class Table:
             return getattr(self, verb)(p, wait)
         wanted = {
             "try_swap": "TryAt", "draw": "Door", "install": "Drawn", "reach": "Owes", "meet": "Ticket",
-            "decide": "Leaving", "settle": "Decided",
+            "see": "Watching", "break": "Watching", "decide": "Leaving", "settle": "Decided",
         }.get(verb, "Idle")
-        return getattr(self, verb)(p, *doing[1:]) if doing[0] == wanted else None
+        method = getattr(self, "break_" if verb == "break" else verb)
+        return method(p, *doing[1:]) if doing[0] == wanted else None
 
     def take(self, p):
         free = self.state > 0
@@ -86,6 +93,9 @@ class Table:
         if cell["state"] == "Empty":
             cell["state"] = "Waiter"
             return f"Waits({number})", []
+        if cell["state"] == "Broken":
+            cell["collected"] = True
+            return f"Broke({number})", [("Undo", p, number)]
         cell["state"] = "Taken"
         self.collect(p, cell)
         return f"Took({number})", [("Deliver", None, number)]
@@ -109,8 +119,14 @@ class Table:
         return f"Reached({number})", []
 
     def meet(self, p, number):
-        self.doing[p] = IDLE
         cell = self.cell(number)
+        if self.is_sync and cell["state"] == "Cancelling":
+            return f"Handling({number})", []
+        self.doing[p] = IDLE
+        if self.is_sync and cell["state"] == "Empty":
+            cell["state"] = "Value"
+            self.doing[p] = ("Watching", number)
+            return f"Left({number})", []
         if cell["state"] == "Waiter":
             cell["state"] = "Resumed"
             return f"Served({number})", [("Deliver", None, number)]
@@ -121,6 +137,21 @@ class Table:
             self.doing[p] = ("Owes",)
             return f"Passed({number})", []
         return f"Void({number})", []
+
+    def see(self, p, number):
+        if self.cell(number)["state"] == "Value":
+            return "Pending", []
+        self.doing[p] = IDLE
+        return f"Served({number})", []
+
+    def break_(self, p, number):
+        self.doing[p] = IDLE
+        cell = self.cell(number)
+        if cell["state"] == "Value":
+            cell["state"] = "Broken"
+            self.held[p] += 1
+            return f"Broke({number})", [("Spoil", p, number)]
+        return f"Served({number})", []
 
     def leave(self, p, wait):
         cell = self.own_wait(p, wait)
@@ -166,11 +197,16 @@ class Semaphore:
     """A semaphore with its line. An entry that may not come stops the script."""
 
     def __init__(self, permits):
+        self.permits = permits
         self.free, self.way, self.held, self.next = permits, 0, 0, 0
         self.door, self.line, self.served = [], [], []
+        self.spoiled = {}  # broken numbers whose suspend hasn't come to them: their callers, or None
+
+    def early(self):
+        return sum(wait >= self.next for wait in self.spoiled)
 
     def due(self):
-        return len(self.door) + len(self.line)
+        return len(self.door) + len(self.line) - self.early()
 
     def state(self):
         return self.free - (self.due() - self.way)
@@ -185,9 +221,12 @@ class Semaphore:
         elif verb == "TryBusy":
             assert self.free == 0
         elif verb == "Enter":
-            assert wait == self.next
+            assert wait == self.next and (wait in self.spoiled or self.early() < len(self.door))
             self.door.remove(p)
-            self.line.append((wait, p))
+            if wait in self.spoiled:
+                self.spoiled[wait] = p
+            else:
+                self.line.append((wait, p))
             self.next += 1
         elif verb == "GiveFreed":
             assert self.held > 0 and self.way == self.due()
@@ -200,6 +239,17 @@ class Semaphore:
             assert place < self.way
             self.served.append(self.line.pop(place))
             self.way, self.held = self.way - 1, self.held + 1
+        elif verb == "Spoil":
+            assert self.way > 0
+            waits = [w for w, _ in self.line[: self.way]]
+            if wait in waits:
+                self.spoiled[wait] = self.line.pop(waits.index(wait))[1]
+            else:
+                assert wait >= self.next and wait not in self.spoiled and self.early() < len(self.door)
+                self.spoiled[wait] = None
+            self.way, self.held = self.way - 1, self.held + 1
+        elif verb == "Undo":
+            assert self.spoiled.pop(wait) == p
         elif verb == "Leave":
             self.line.remove((wait, p))
             if self.way > self.due():
@@ -208,6 +258,8 @@ class Semaphore:
             self.served.remove((wait, p))
         else:
             assert verb == "LookPending" and (wait, p) in self.line
+        assert self.held + self.free + self.way == self.permits and self.way <= self.due()
+        assert self.early() <= len(self.door) and (self.free == 0 or self.way == self.due())
 
 
 def events(seed, count):
@@ -216,6 +268,28 @@ def events(seed, count):
     for _ in range(count):
         number = (number * 1_103_515_245 + 12_345) % 2_147_483_648
         yield VERBS[number // 4096 % 12], number // 64 % 3, number // 256 % 8
+
+
+def likely(table, p):
+    """The events that this pass is likely to make where the table stands."""
+    if table.doing[p] != IDLE:
+        return [(verb, p, 0) for verb in LIKELY[table.doing[p][0]].split()]
+    made = [("take", p, 0), ("try_load", p, 0)] * (table.state > -3) + [("give", p, 0)] * 3 * (table.held[p] > 0)
+    for wait, cell in enumerate(table.cells):
+        if table.own_wait(p, wait) and cell["state"] in ("Waiter", "Resumed"):
+            made += [("look", p, wait), ("leave", p, wait)]
+    return made or [("-", p, 0)]
+
+
+def likely_events(table, seed, count):
+    """So many events that are likely where the table stands, or fewer."""
+    number = seed
+    for _ in range(count):
+        number = (number * 6_364_136_223_846_793_005 + 1_442_695_040_888_963_407) % 2**64
+        choices = likely(table, number // 2**40 % 3)
+        event = choices[number // 2**48 % len(choices)]
+        if event[0] != "-":
+            yield event
 
 
 def asked(verb, p, wait):
@@ -238,13 +312,13 @@ def random_schedules():
         yield f"state: {table.state}"
 
 
-def histories():
-    for seed in range(1, 13):
+def histories(seeds, is_sync):
+    for seed in seeds:
         permits = seed % 3 + 1
-        table, semaphore, history = Table(permits), Semaphore(permits), []
+        table, semaphore, history = Table(permits, is_sync), Semaphore(permits), []
         yield f"=== Seed {seed}, with {permits} permit{'s' * (permits > 1)}."
-        yield f"core {permits} 3: Ok"
-        for event in events(seed, 2000):
+        yield f"{'sync' if is_sync else 'core'} {permits} 3: Ok"
+        for event in likely_events(table, seed, 500) if is_sync else events(seed, 2000):
             made = table.step(*event)
             if made is not None:
                 for entry in made[1]:
@@ -264,16 +338,16 @@ def stalls(name):
     schedules = []
     for line in (DATA / name).read_text().splitlines():
         words = [] if line.startswith("=== ") else line.split(": ")[0].split(" ")
-        if words[:1] == ["core"]:
-            schedules.append((int(words[1]), int(words[2]), []))
-        elif words and words[0] in VERBS:
-            schedules[-1][2].append((words[0], int(words[1]), int((words + ["0"])[2])))
+        if words[:1] in (["core"], ["sync"]):
+            schedules.append((words[0] == "sync", int(words[1]), int(words[2]), []))
+        elif words and words[0] in VERBS + ["see", "break"]:
+            schedules[-1][3].append((words[0], int(words[1]), int((words + ["0"])[2])))
     cases = left_out = 0
-    for permits, passes, schedule in schedules:
+    for is_sync, permits, passes, schedule in schedules:
         for pass_, place in ((p, at) for p in range(passes) for at in range(len(schedule))):
             is_late = [at >= place and event[1] == pass_ for at, event in enumerate(schedule)]
             order = sorted(range(len(schedule)), key=lambda at: is_late[at])
-            table, semaphore = Table(permits), Semaphore(permits)
+            table, semaphore = Table(permits, is_sync), Semaphore(permits)
             for at in order:
                 made = table.step(*schedule[at])
                 left_out += made is None
@@ -286,5 +360,6 @@ def stalls(name):
 
 
 (DATA / "random.schedules").write_text("\n".join(random_schedules()) + "\n")
-(DATA / "histories.schedules").write_text("\n".join(histories()) + "\n")
+(DATA / "histories.schedules").write_text("\n".join(histories(range(1, 13), False)) + "\n")
+(DATA / "breaks.schedules").write_text("\n".join(histories(range(1, 7), True)) + "\n")
 print(stalls("schedules.schedules"))

@@ -1,7 +1,7 @@
 //! What a line of a schedule asks of a core.
 
 use crate::texts::{doing_text, entry_text, outcome_text, state_text};
-use cqs_core::Event;
+use cqs_core::{Call, Event};
 use cqs_core_run::Core;
 use std::alloc::{AllocError, Global};
 use std::fmt::Debug;
@@ -17,10 +17,24 @@ pub fn event_of(verb: &str, pass: u32, wait: u64) -> Option<Event> {
         "give" => Event::Give { pass },
         "reach" => Event::Reach { pass },
         "meet" => Event::Meet { pass },
+        "see" => Event::See { pass },
+        "break" => Event::Break { pass },
         "leave" => Event::Leave { pass, wait },
         "decide" => Event::Decide { pass },
         "settle" => Event::Settle { pass },
         "look" => Event::Look { pass, wait },
+        _ => return None,
+    })
+}
+
+/// A whole call of a pass, by its name.
+fn call_of(verb: &str, pass: u32, wait: u64) -> Option<Call> {
+    Some(match verb {
+        "acquire" => Call::Acquire { pass },
+        "try" => Call::Try { pass },
+        "release" => Call::Release { pass },
+        "poll" => Call::Poll { pass, wait },
+        "cancel" => Call::Cancel { pass, wait },
         _ => return None,
     })
 }
@@ -38,9 +52,36 @@ fn make(alloc: Global, core: &mut Core, event: Event) -> Result<String, AllocErr
     }
 }
 
+/// Makes a whole call, where every pass is idle, and tells its reply.
+fn run(alloc: Global, core: &mut Core, call: Call) -> Result<String, AllocError> {
+    if !core.is_resting() {
+        return String::from_str(alloc, "NotResting");
+    }
+    match core.run_call(call) {
+        Ok(reply) => text_of(alloc, &reply),
+        Err(error) => text_of(alloc, &error),
+    }
+}
+
 /// Puts a new core in the place of the one before.
 fn open(alloc: Global, core: &mut Core, permits: u32, passes: u32) -> Result<String, AllocError> {
     match Core::new(alloc, permits, passes) {
+        Ok(made) => {
+            *core = made;
+            String::from_str(alloc, "Ok")
+        }
+        Err(error) => text_of(alloc, &error),
+    }
+}
+
+/// The same with a synchronous core.
+fn open_sync(
+    alloc: Global,
+    core: &mut Core,
+    permits: u32,
+    passes: u32,
+) -> Result<String, AllocError> {
+    match Core::new_sync(alloc, permits, passes) {
         Ok(made) => {
             *core = made;
             String::from_str(alloc, "Ok")
@@ -106,9 +147,13 @@ fn told(
         first,
         second,
     } = question;
+    if let Some(call) = call_of(verb, first, u64::from(second)) {
+        return Some(run(alloc, core, call));
+    }
     match event_of(verb, first, u64::from(second)) {
         Some(event) => Some(make(alloc, core, event)),
         None if verb == "core" => Some(open(alloc, core, first, second)),
+        None if verb == "sync" => Some(open_sync(alloc, core, first, second)),
         None => state_of(alloc, core, verb, first),
     }
 }

@@ -2,14 +2,19 @@
 //!
 //! A file of schedules is a text of lines, each of which asks, and says what is to be answered:
 //! `take 0: Now`. A line that begins with `=== ` is a heading, for the reader alone. Answers are
-//! written as `{:?}` writes them; an event that may not come now answers NotEnabled.
+//! written as `{:?}` writes them; an event that may not come now answers NotEnabled, and a whole
+//! call answers NotResting while a pass isn't idle.
 //!
 //! | line | what it asks |
 //! |---|---|
 //! | `core 2 3: Ok` | a new core of 2 permits and 3 passes, on which the next lines are made |
+//! | `sync 2 3: Ok` | the same, of a synchronous core |
 //! | `take 0`, `try_load 0`, `try_swap 0`, `draw 0`, `install 0` | this event of pass 0 |
-//! | `give 0`, `reach 0`, `meet 0`, `decide 0`, `settle 0` | this event of pass 0 |
+//! | `give 0`, `reach 0`, `meet 0`, `see 0`, `break 0` | this event of pass 0 |
+//! | `decide 0`, `settle 0` | this event of pass 0 |
 //! | `leave 0 5`, `look 0 5` | this event of pass 0 at its wait 5 |
+//! | `acquire 0`, `try 0`, `release 0` | this whole call of pass 0 |
+//! | `poll 0 5`, `cancel 0 5` | this whole call of pass 0 on its wait 5 |
 //! | `state`, `suspends`, `resumes` | the state word, the counters |
 //! | `cell 5`, `doing 0`, `held 0` | the state of a cell; what a pass does, and what it holds |
 //! | `entries`, `entry 0` | how many entries the history has; one of them |
@@ -29,7 +34,14 @@ use std::fs;
 use std::rt::Files;
 
 /// The files of schedules, each of which ends with `.schedules`.
-const FILES: [&str; 4] = ["sizes", "schedules", "random", "histories"];
+const FILES: [&str; 6] = [
+    "sizes",
+    "schedules",
+    "calls",
+    "random",
+    "histories",
+    "breaks",
+];
 
 /// The file of those in which each pass stalls at each place.
 const STALLING: &str = "schedules";

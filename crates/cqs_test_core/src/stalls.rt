@@ -15,6 +15,7 @@ const MOST_EVENTS: usize = 1_000_000;
 /// The events of a schedule, and the numbers of the core on which they are made.
 #[derive(Drop)]
 struct Schedule {
+    is_sync: bool,
     permits: u32,
     passes: u32,
     events: Vec<Event>,
@@ -51,8 +52,9 @@ fn add(
         first,
         second,
     } = question;
-    if verb == "core" {
+    if verb == "core" || verb == "sync" {
         schedules.push(Schedule {
+            is_sync: verb == "sync",
             permits: first,
             passes: second,
             events: Vec::new(alloc),
@@ -92,6 +94,8 @@ fn pass_of(event: Event) -> u32 {
         | Event::Give { pass }
         | Event::Reach { pass }
         | Event::Meet { pass }
+        | Event::See { pass }
+        | Event::Break { pass }
         | Event::Leave { pass, .. }
         | Event::Decide { pass }
         | Event::Settle { pass }
@@ -123,7 +127,12 @@ fn stalled(
 
 /// A core for the events of a schedule.
 fn open(alloc: Global, schedule: &Schedule) -> anyhow::Result<Core> {
-    match Core::new(alloc, schedule.permits, schedule.passes) {
+    let made = if schedule.is_sync {
+        Core::new_sync(alloc, schedule.permits, schedule.passes)
+    } else {
+        Core::new(alloc, schedule.permits, schedule.passes)
+    };
+    match made {
         Ok(core) => Ok(core),
         Err(_) => anyhow::bail!("no core for a schedule"),
     }
@@ -176,10 +185,25 @@ fn permits_in_cells(core: &Core) -> i64 {
     found
 }
 
+/// How many numbers are broken that no suspend has drawn: as many at the door will find theirs so,
+/// and want no permit.
+fn broken_early(core: &Core) -> i64 {
+    let mut found = 0i64;
+    for number in core.suspends()..core.resumes() {
+        if let Some(cell) = core.cell(number) {
+            if matches!(cell.state, CoreState::Broken) {
+                found = found.saturating_add(1);
+            }
+        }
+    }
+    found
+}
+
 /// All permits: those that passes hold, those that were delivered and not yet collected, and the
 /// state, which is short of one for each wait at the door and in the line that has none on its way.
 fn permits_found(core: &Core, passes: u32) -> i64 {
     let mut found = core.state().saturating_add(permits_in_cells(core));
+    found = found.saturating_sub(broken_early(core));
     for pass in 0..passes {
         found = found.saturating_add(i64::from(core.held(pass).unwrap_or(0)));
         if matches!(core.doing(pass), Some(Doing::Door)) {

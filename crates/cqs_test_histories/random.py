@@ -1,8 +1,8 @@
 #!/usr/bin/env python3
 """Writes data/random.cases: schedules by chance with what they tell, their histories judged, and texts that are a little wrong.
 
-The table of events and the semaphore with its line are those of random.py of cqs_test_core, which know nothing of the crates. The grammar of the texts
-is told here, by regular expressions.
+The table of events and the semaphore with its line are those of random.py of cqs_test_core, which know nothing of the crates. What a synchronous core
+does otherwise is told here, and so is the grammar of the texts, by regular expressions.
 """
 import re
 from pathlib import Path
@@ -12,9 +12,82 @@ exec((HERE.parent / "cqs_test_core" / "random.py").read_text().partition("\n\nde
 
 ENTRIES = {"LookGranted": "granted", "LookPending": "pending"}
 NUMBER = r"(0|[1-9]\d*)"
-PASS_EVENTS = "take tryload tryswap draw install give reach meet decide settle".split()
+PASS_EVENTS = "take tryload tryswap draw install give reach meet see break decide settle".split()
 PASS_ENTRIES = "takenow takedoor trygot trybusy givefreed givesent".split()
-WAIT_ENTRIES = "enter leave late granted pending".split()
+WAIT_ENTRIES = "enter spoil undo leave late granted pending".split()
+
+
+class SyncTable(Table):
+    """The table of events of a synchronous core: a resume watches the value that it left, and may break its cell."""
+
+    def step(self, verb, p, wait):
+        if verb in ("see", "break"):
+            doing = self.doing[p]
+            return self.watched(verb, p, doing[1]) if doing[0] == "Watching" else None
+        return super().step(verb, p, wait)
+
+    def install(self, p, number):
+        cell = self.cell(number)
+        if cell["state"] != "Broken":
+            return super().install(p, number)
+        cell["collected"] = True
+        self.doing[p] = IDLE
+        return f"Broke({number})", [("Undo", p, number)]
+
+    def meet(self, p, number):
+        state = self.cell(number)["state"]
+        if state == "Cancelling":
+            return f"Handling({number})", []
+        answer = super().meet(p, number)
+        if state == "Empty":
+            self.doing[p] = ("Watching", number)
+        return answer
+
+    def watched(self, verb, p, number):
+        cell = self.cell(number)
+        if cell["state"] == "Value" and verb == "see":
+            return "Pending", []
+        self.doing[p] = IDLE
+        if cell["state"] == "Value":
+            cell["state"] = "Broken"
+            self.held[p] += 1
+            return f"Broke({number})", [("Spoil", p, number)]
+        return f"Served({number})", []
+
+
+class BreakingSemaphore(Semaphore):
+    """A semaphore with its line and the numbers that were broken, each with its caller where it was drawn."""
+
+    def __init__(self, permits):
+        super().__init__(permits)
+        self.spoiled = {}
+
+    def early(self):
+        return sum(number >= self.next for number in self.spoiled)
+
+    def due(self):
+        return super().due() - self.early()
+
+    def replay(self, verb, p, wait=None):
+        if verb == "Spoil":
+            assert self.way > 0
+            first = [number for number, _ in self.line[:self.way]]
+            if wait in first:
+                self.spoiled[wait] = self.line.pop(first.index(wait))[1]
+            else:
+                assert wait >= self.next and wait not in self.spoiled and self.early() < len(self.door)
+                self.spoiled[wait] = None
+            self.way, self.held = self.way - 1, self.held + 1
+        elif verb == "Undo":
+            assert wait in self.spoiled and self.spoiled[wait] == p
+            del self.spoiled[wait]
+        elif verb == "Enter" and wait == self.next and wait in self.spoiled:
+            self.door.remove(p)
+            self.spoiled[wait] = p
+            self.next += 1
+        else:
+            assert verb != "Enter" or self.early() < len(self.door)
+            super().replay(verb, p, wait)
 
 
 def outcome(text):
@@ -41,8 +114,25 @@ def made(seed, permits, count):
     return table, lines, told, history
 
 
+def made_sync(seed, permits, count):
+    """The same of a synchronous core. Few wait at a time, and callers come late to their cells, so that resumes often find nobody there."""
+    table, lines, told, history, number = SyncTable(permits), [], [], [], seed
+    verbs = [*VERBS, "see", "break"]
+    for _ in range(count):
+        number = (number * 1_103_515_245 + 12_345) % 2_147_483_648
+        verb, p, wait = verbs[number // 4096 % len(verbs)], number // 64 % 3, max(table.suspends - 1 - number // 256 % 4, 0)
+        late = verb in ("draw", "install", "decide") and number // 2**20 % 4
+        answer = None if late or verb == "take" and table.state < 0 else table.step(verb, p, wait)
+        if answer is not None:
+            line = asked(verb, p, wait).replace("_", "")
+            lines.append(line)
+            told.append(f"{line}: {outcome(answer[0])}")
+            history += answer[1]
+    return table, lines, told, history
+
+
 def judged(permits, history):
-    semaphore = Semaphore(permits)
+    semaphore = BreakingSemaphore(permits)
     for place, one in enumerate(history):
         try:
             semaphore.replay(*one)
@@ -80,19 +170,20 @@ def first_bad(text, head, **verbs):
             return None
         if place == len(lines) - 1:
             return place + 1
-        right = fits(line, head, (), (), ()) if place == 0 else fits(line, {}, **verbs)
+        sized = line.removesuffix(" sync") if "core" in head else line
+        right = fits(sized, head, (), (), ()) if place == 0 else fits(line, {}, **verbs)
         if not right:
             return place + 1
 
 
-def wrong_texts(seed):
+def wrong_texts(seed, core, lines, history):
     """A schedule and a history, each with one byte or line changed by chance."""
     number = seed
+    schedule, entries = [core, *lines], ["semaphore 2", *(entry(*one) for one in history)]
     for which in range(60):
         number = (number * 1_103_515_245 + 12_345) % 2_147_483_648
-        table, lines, _, history = made(seed % 7 + 1, 2, 40)
         is_schedule = which % 2 == 0
-        lines = ["core 2 3", *lines] if is_schedule else ["semaphore 2", *(entry(*one) for one in history)]
+        lines = [*schedule] if is_schedule else [*entries]
         at = number // 256 % len(lines)
         line = lines[at]
         place = number // 4096 % len(line)
@@ -113,24 +204,33 @@ def wrong_texts(seed):
                 yield case(f"Wrong history {which}.", "check", lines, [f"bad history: line {bad}"])
 
 
-def cases():
+def runs():
+    """The runs by chance: what each is called, its head, its permits, and what comes of it."""
     for seed in range(1, 11):
         permits = seed % 3 + 1
-        table, lines, told, history = made(seed, permits, 900)
-        schedule = [f"core {permits} 3", *lines]
+        yield seed, f"Seed {seed}", f"core {permits} 3", permits, made(seed, permits, 900)
+    for seed in range(1, 9):
+        permits = seed % 3 + 1
+        yield seed, f"Seed {seed}, synchronous", f"core {permits} 3 sync", permits, made_sync(seed, permits, 1200)
+
+
+def cases():
+    for seed, called, core, permits, (table, lines, told, history) in runs():
+        schedule = [core, *lines]
         state = f"state {table.state} suspends {table.suspends} resumes {table.resumes}"
         entries = [entry(*one) for one in history]
-        yield case(f"Seed {seed}.", "replay", schedule, [*told, state])
-        yield case(f"Seed {seed}.", "rewrite", schedule, schedule)
-        yield case(f"Seed {seed}.", "history", schedule, [f"semaphore {permits}", *entries])
-        yield case(f"Seed {seed}.", "check", [f"semaphore {permits}", *entries], judged(permits, history))
+        yield case(f"{called}.", "replay", schedule, [*told, state])
+        yield case(f"{called}.", "rewrite", schedule, schedule)
+        yield case(f"{called}.", "history", schedule, [f"semaphore {permits}", *entries])
+        yield case(f"{called}.", "check", [f"semaphore {permits}", *entries], judged(permits, history))
         for place in range(seed, len(history), 17):
             changed = history[:place] + history[place + 1:]
             if seed % 2:
                 changed = history[:place] + history[place:place + 2][::-1] + history[place + 2:]
             lines_of = [entry(*one) for one in changed]
-            yield case(f"Seed {seed}, changed at {place}.", "check", [f"semaphore {permits}", *lines_of], judged(permits, changed))
-    yield from wrong_texts(5)
+            yield case(f"{called}, changed at {place}.", "check", [f"semaphore {permits}", *lines_of], judged(permits, changed))
+    yield from wrong_texts(5, "core 2 3", *made(6, 2, 40)[1::2])
+    yield from wrong_texts(9, "core 2 3 sync", *made_sync(3, 2, 90)[1::2])
 
 
 (HERE / "data" / "random.cases").write_text("".join(cases()))

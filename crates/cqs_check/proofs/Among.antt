@@ -1,13 +1,11 @@
 -- The place of a wait in the line is the number of waits with smaller numbers that stand.
-use Rattle.std.proofs.Common.{◌≡◌, ◌≢◌, ◌⊎◌, inl, inr, ℕ, zero, suc, ◌+◌, ◌<◌, ◌≤◌, List, [], ◌∷◌, ◌++◌, length, take, Option, Some, None, Bool, true, false, count_by, slice_get, slice_index, refl, sym, ap, ap₂, ◌∙◌, subst, arith}
-use native.Mathlib.Numerals.{unary_clauses}
+use Rattle.std.proofs.Common.{◌≡◌, ℕ, zero, suc, ◌+◌, ◌<◌, List, [], ◌∷◌, take, Some, slice_get, refl, ap, arith}
 use Rattle.cqs_core.specs.Numbered.{pick_each, cons_option, IsIn}
 use Rattle.cqs_core.specs.QueueLine.{Waiting}
 use Rattle.cqs_core.specs.QueueWaiters.{Waits}
 use Rattle.cqs_check.specs.declared.waits.WaitState.{WaitState}
 use Rattle.cqs_check.specs.declared.waits.WaitState.TheVariants as wait
-use Rattle.cqs_check.specs.Lines.{waiting_at, standing, flag}
-use Rattle.cqs_check.specs.Trees.{total}
+use Rattle.cqs_check.specs.Lines.{waiting_at, standing}
 
 -- wait n is the i-th of the table that begins with number k, and fewer than `way` before it stand
 pub record StandsAt (way n c k : ℕ) (waits : List WaitState) : Type 0 where
@@ -47,7 +45,7 @@ stands-among (suc way) n c k (wait.Served d ∷ waits) (suc i) at there few =
     stands-among (suc way) n c (suc k) waits i (omega (arith, at)) there few
 stands-among (suc way) n c k (wait.Closed d ∷ waits) (suc i) at there few =
     stands-among (suc way) n c (suc k) waits i (omega (arith, at)) there few
-stands-among (suc way) n c k (wait.Left ∷ waits) (suc i) at there few =
+stands-among (suc way) n c k (wait.Gone ∷ waits) (suc i) at there few =
     stands-among (suc way) n c (suc k) waits i (omega (arith, at)) there few
 
 in-take : (way : ℕ) (w v : Waiting) (xs : List Waiting) (place : ℕ) → slice_get (v ∷ take way xs) (suc place) ≡ Some w
@@ -101,6 +99,6 @@ among-stands (suc way) n c k (wait.Served d ∷ waits) is =
 among-stands (suc way) n c k (wait.Closed d ∷ waits) is =
     let later = among-stands (suc way) n c (suc k) waits is in
     record { place = suc later.place; number = omega (arith, later.number); there = later.there; few = later.few }
-among-stands (suc way) n c k (wait.Left ∷ waits) is =
+among-stands (suc way) n c k (wait.Gone ∷ waits) is =
     let later = among-stands (suc way) n c (suc k) waits is in
     record { place = suc later.place; number = omega (arith, later.number); there = later.there; few = later.few }

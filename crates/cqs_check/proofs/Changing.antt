@@ -1,8 +1,8 @@
 -- On the way up from a leaf to the root, changing each node by one.
-use Rattle.std.proofs.Common.{◌≡◌, ◌≢◌, ◌⊎◌, inl, inr, ℕ, zero, suc, ◌+◌, ◌-◌, ◌*◌, ◌/◌, ◌%◌, ◌^◌, ◌<◌, ◌≤◌, List, [], ◌∷◌, length, set, slice_index, refl, sym, ap, ap₂, ◌∙◌, subst, arith}
-use Rattle.std.proofs.lemmas.Bool.{cases_eq, cases_lt}
+use Rattle.std.proofs.Common.{◌≡◌, ◌≢◌, ◌⊎◌, inl, inr, ℕ, zero, suc, ◌+◌, ◌-◌, ◌/◌, ◌<◌, ◌≤◌, List, [], ◌∷◌, length, set, slice_index, refl, sym, ap, ◌∙◌, arith}
+use Rattle.std.proofs.lemmas.Bool.{cases_eq}
 use Rattle.cqs_check.specs.declared.counts.Counts.{Counts}
-use Rattle.cqs_check.specs.Trees.{total, IsPair, IsTree, IsRaised, IsLowered, leaf}
+use Rattle.cqs_check.specs.Trees.{IsPair, IsTree, IsRaised, IsLowered, leaf}
 
 pub index-here : (xs : List ℕ) (i v : ℕ) → i < length xs → slice_index (set xs i v) i ≡ v
 index-here [] i v low = absurd (omega (arith, low))

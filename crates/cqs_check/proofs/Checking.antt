@@ -1,8 +1,8 @@
 -- On the way through a history.
-use Rattle.std.proofs.Common.{◌≡◌, ◌≢◌, ℕ, zero, suc, ◌+◌, ◌<◌, ◌≤◌, List, [], ◌∷◌, length, take, Some, true, false, slice_get, get_or, refl, sym, ap, ◌∙◌, subst, arith}
+use Rattle.std.proofs.Common.{◌≡◌, ℕ, zero, suc, ◌+◌, ◌<◌, ◌≤◌, List, [], ◌∷◌, length, take, Some, true, false, slice_get, get_or, refl, sym, ap, ◌∙◌, subst, arith}
 use Rattle.std.proofs.lemmas.List.{take_all}
 use Rattle.cqs_core.specs.declared.entries.Entry.{Entry}
-use Rattle.cqs_core.specs.SemaphoreObject.{Semaphore, opening, due}
+use Rattle.cqs_core.specs.SemaphoreObject.{opening}
 use Rattle.cqs_core.specs.SemaphoreEntries.{IsAllowed, after_entry, IsLegal, object_after}
 use Rattle.cqs_core.proofs.Histories.{take-next, legal-push, object-next}
 use Rattle.cqs_check.specs.declared.judge.Judge.{Judge}

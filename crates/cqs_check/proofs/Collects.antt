@@ -1,22 +1,23 @@
 -- The entries of a wait's own caller: it leaves the line, looks, or has what came.
-use Rattle.std.proofs.Common.{◌≡◌, ◌≢◌, ◌⊎◌, inl, inr, ℕ, zero, suc, ◌+◌, ◌-◌, ◌<◌, ◌≤◌, Bool, true, false, true≢false, List, [], ◌∷◌, ◌++◌, length, set, take, Option, Some, None, slice_get, refl, sym, ap, ap₂, ◌∙◌, subst, arith, lt-ltb, le-ltb, nat_lt, if◌then◌else◌}
+use Rattle.std.proofs.Common.{◌≡◌, ◌≢◌, ℕ, zero, suc, ◌+◌, ◌-◌, ◌<◌, ◌≤◌, true, false, true≢false, List, [], ◌∷◌, length, take, Some, slice_get, refl, sym, ap, ◌∙◌, subst, arith, lt-ltb, le-ltb}
 use Rattle.std.proofs.lemmas.List.{take_all}
 use Rattle.cqs_core.specs.declared.entries.Entry.TheVariants as entry
-use Rattle.cqs_core.specs.Numbered.{pick_each, cons_option, IsIn}
+use Rattle.cqs_core.specs.Numbered.{pick_each}
 use Rattle.cqs_core.specs.Keyed.{without, change_by}
 use Rattle.cqs_core.specs.QueueLine.{Waiting, Service}
 use Rattle.cqs_core.specs.QueueWaiters.{Waits, IsServed}
 use Rattle.cqs_core.specs.SemaphoreObject.{Semaphore, due}
-use Rattle.cqs_core.specs.SemaphoreEntries.{IsAllowed, after_entry, turned_back}
+use Rattle.cqs_core.specs.SemaphoreEntries.{after_entry, turned_back}
 use Rattle.cqs_core.proofs.Picked.{picked-in}
 use Rattle.cqs_check.specs.declared.judge.Judge.{Judge}
 use Rattle.cqs_check.specs.declared.waits.WaitState.{WaitState}
 use Rattle.cqs_check.specs.declared.waits.WaitState.TheVariants as wait
-use Rattle.cqs_check.specs.declared.waits.Table.{Table}
-use Rattle.cqs_check.specs.Doors.{IsDoor, HasDoor, total_of}
-use Rattle.cqs_check.specs.Lines.{IsTable, Becomes, line_of, served_of, waiting_at, served_at, flag}
+use Rattle.cqs_check.specs.Doors.{total_of}
+use Rattle.cqs_check.specs.Lines.{Becomes, line_of, served_of, waiting_at, served_at}
 use Rattle.cqs_check.specs.Judging.{IsJudge, Judged, Stands, DropsOut, TurnsBack}
-use Rattle.cqs_check.proofs.Among.{StandsAt, among-stands}
+use Rattle.cqs_check.specs.BrokenNumbers.{early_in}
+use Rattle.cqs_check.proofs.Among.{among-stands}
+use Rattle.cqs_check.proofs.Kept.{became-length, became-broken, became-apart, same-broken, same-apart}
 use Rattle.cqs_check.proofs.Shown.{line-left, line-shorter, line-same, service-same, service-closed}
 
 -- a wait that stands in the table is in the line, and back
@@ -55,7 +56,7 @@ same-service v w e = cc e
 served-from : (n c k : ℕ) (ws : List WaitState) → IsServed n c (pick_each served_at k ws) → ServedAt n c k ws
 served-from n c k [] is = absurd (cc is.there)
 served-from n c k (wait.Waiting d ∷ ws) is = served-later n c k (wait.Waiting d) ws (served-from n c (suc k) ws is)
-served-from n c k (wait.Left ∷ ws) is = served-later n c k wait.Left ws (served-from n c (suc k) ws is)
+served-from n c k (wait.Gone ∷ ws) is = served-later n c k wait.Gone ws (served-from n c (suc k) ws is)
 served-from n c k (wait.Served d ∷ ws) is = go is.place is.there (λ more. served-from n c (suc k) ws more)
   where
     go : (place : ℕ) → slice_get (record { wait = k; pass = d; is_open = true } ∷ pick_each served_at (suc k) ws) place
@@ -124,18 +125,13 @@ late-refused j u k c none = λ o stands may.
     let here : IsServed k c (served_of j.table) = rw (sym stands.served) may in
     none (served-there j.table.waits.items k c here)
 
-same_length : (xs : List WaitState) (i : ℕ) (x : WaitState) → length xs ≡ length (set xs i x)
-same_length [] i x = refl
-same_length (y ∷ ys) zero x = refl
-same_length (y ∷ ys) (suc i) x = ap suc (same_length ys i x)
-
 -- what came is had: by a look, or by a caller that wanted to leave
 collected : (j u : Judge) (k c : ℕ) → IsJudge j → slice_get j.table.waits.items k ≡ Some (wait.Served c)
     → Becomes j.table k (wait.Closed c) u.table → u.free ≡ j.free → u.way ≡ j.way → u.held ≡ j.held
-    → u.in_line ≡ j.in_line → u.door ≡ j.door
+    → u.in_line ≡ j.in_line → u.door ≡ j.door → u.broken ≡ j.broken
     → IsJudge u × ((o : Semaphore) → Stands j o → IsServed k c o.served
     × Stands u (after_entry o (entry.LookGranted c k)))
-collected j u k c judge there becomes free way held in_line door =
+collected j u k c judge there becomes free way held in_line door broken =
     let ws : List WaitState = j.table.waits.items in
     let line : line_of u.table ≡ line_of j.table
     = ap (λ l. pick_each waiting_at 0 l) becomes.waits ∙ line-same ws k (wait.Served c) (wait.Closed c) there refl in
@@ -144,6 +140,8 @@ collected j u k c judge there becomes free way held in_line door =
         table = becomes.table;
         door = rw door judge.door;
         in_line = in_line ∙ judge.in_line ∙ sym (ap length line);
+        broken = became-broken j.table u.table k (wait.Closed c) j.broken u.broken becomes broken judge.broken;
+        apart = became-apart j.table u.table k (wait.Closed c) j.broken u.broken refl becomes broken judge.apart;
         few = omega (arith, judge.few, free, way, held);
       },
       λ o stands. (
@@ -152,7 +150,7 @@ collected j u k c judge there becomes free way held in_line door =
           free = stands.free ∙ sym free;
           way = stands.way ∙ sym way;
           held = stands.held ∙ sym held;
-          next = stands.next ∙ same_length ws k (wait.Closed c) ∙ sym (ap length becomes.waits);
+          next = stands.next ∙ sym (became-length j.table u.table k (wait.Closed c) becomes);
           line = stands.line ∙ sym line;
           served = ap (change_by (λ (s : Service). s.wait) k (λ s. record {
             wait = s.wait;
@@ -161,42 +159,45 @@ collected j u k c judge there becomes free way held in_line door =
                 false;
           })) stands.served ∙ sym served;
           door = rw door stands.door;
+          broken = rw broken stands.broken;
         },
       ),
     )
 
 pub granted-judged : (j u : Judge) (k c : ℕ) → IsJudge j → slice_get j.table.waits.items k ≡ Some (wait.Served c)
     → Becomes j.table k (wait.Closed c) u.table → u.free ≡ j.free → u.way ≡ j.way → u.held ≡ j.held
-    → u.in_line ≡ j.in_line → u.door ≡ j.door
+    → u.in_line ≡ j.in_line → u.door ≡ j.door → u.broken ≡ j.broken
     → Judged j (entry.LookGranted c k) true u
-granted-judged j u k c judge there becomes free way held in_line door =
-    collected j u k c judge there becomes free way held in_line door
+granted-judged j u k c judge there becomes free way held in_line door broken =
+    collected j u k c judge there becomes free way held in_line door broken
 
 pub late-judged : (j u : Judge) (k c : ℕ) → IsJudge j → slice_get j.table.waits.items k ≡ Some (wait.Served c)
     → Becomes j.table k (wait.Closed c) u.table → u.free ≡ j.free → u.way ≡ j.way → u.held ≡ j.held
-    → u.in_line ≡ j.in_line → u.door ≡ j.door
+    → u.in_line ≡ j.in_line → u.door ≡ j.door → u.broken ≡ j.broken
     → Judged j (entry.Late c k) true u
-late-judged j u k c judge there becomes free way held in_line door =
-    collected j u k c judge there becomes free way held in_line door
+late-judged j u k c judge there becomes free way held in_line door broken =
+    collected j u k c judge there becomes free way held in_line door broken
 
 -- a wait drops out of the line
 pub drops-out : (j u : Judge) (c k : ℕ) → IsJudge j → slice_get j.table.waits.items k ≡ Some (wait.Waiting c)
-    → Becomes j.table k wait.Left u.table → u.free ≡ j.free → u.way ≡ j.way → u.held ≡ j.held
-    → u.in_line + 1 ≡ j.in_line → u.door ≡ j.door
+    → Becomes j.table k wait.Gone u.table → u.free ≡ j.free → u.way ≡ j.way → u.held ≡ j.held
+    → u.in_line + 1 ≡ j.in_line → u.door ≡ j.door → u.broken ≡ j.broken
     → DropsOut j c k u
-drops-out j u c k judge there becomes free way held in_line door =
+drops-out j u c k judge there becomes free way held in_line door broken =
     let ws : List WaitState = j.table.waits.items in
     let line : line_of u.table ≡ without (λ (w : Waiting). w.wait) k (line_of j.table)
-    = ap (λ l. pick_each waiting_at 0 l) becomes.waits ∙ line-left ws k c wait.Left there refl in
+    = ap (λ l. pick_each waiting_at 0 l) becomes.waits ∙ line-left ws k c wait.Gone there refl in
     let served : served_of u.table ≡ served_of j.table
-    = ap (λ l. pick_each served_at 0 l) becomes.waits ∙ service-same ws k (wait.Waiting c) wait.Left there refl in
+    = ap (λ l. pick_each served_at 0 l) becomes.waits ∙ service-same ws k (wait.Waiting c) wait.Gone there refl in
     let shorter : length (line_of u.table) + 1 ≡ length (line_of j.table)
-    = ap (λ l. length (pick_each waiting_at 0 l) + 1) becomes.waits ∙ line-shorter ws k c wait.Left there refl in
+    = ap (λ l. length (pick_each waiting_at 0 l) + 1) becomes.waits ∙ line-shorter ws k c wait.Gone there refl in
     record {
       judge = record {
         table = becomes.table;
         door = rw door judge.door;
         in_line = omega (arith, judge.in_line, in_line, shorter);
+        broken = became-broken j.table u.table k wait.Gone j.broken u.broken becomes broken judge.broken;
+        apart = became-apart j.table u.table k wait.Gone j.broken u.broken refl becomes broken judge.apart;
         few = omega (arith, judge.few, free, way, held);
       };
       stands = λ o stands. (
@@ -205,18 +206,21 @@ drops-out j u c k judge there becomes free way held in_line door =
           free = stands.free ∙ sym free;
           way = stands.way ∙ sym way;
           held = stands.held ∙ sym held;
-          next = stands.next ∙ same_length ws k wait.Left ∙ sym (ap length becomes.waits);
+          next = stands.next ∙ sym (became-length j.table u.table k wait.Gone becomes);
           line = ap (without (λ (w : Waiting). w.wait) k) stands.line ∙ sym line;
           served = stands.served ∙ sym served;
           door = rw door stands.door;
+          broken = rw broken stands.broken;
         },
       );
     }
 
-due-is : (j : Judge) (o : Semaphore) → IsJudge j → Stands j o → due o ≡ total_of j.door + j.in_line
-due-is j o judge stands = omega (arith, stands.door.total, judge.in_line, ap length stands.line)
+pub due-is : (j : Judge) (o : Semaphore) → IsJudge j → Stands j o
+    → due o ≡ total_of j.door + j.in_line - early_in j.broken
+due-is j o judge stands =
+    omega (arith, stands.door.total, judge.in_line, ap length stands.line, stands.broken.early)
 
-pub turns-none : (j : Judge) → IsJudge j → j.way ≤ total_of j.door + j.in_line → TurnsBack j j
+pub turns-none : (j : Judge) → IsJudge j → j.way ≤ total_of j.door + j.in_line - early_in j.broken → TurnsBack j j
 turns-none j judge few = record {
   judge = judge;
   stands = λ o stands.
@@ -225,14 +229,16 @@ turns-none j judge few = record {
       rw same stands;
 }
 
-pub turns-one : (j u : Judge) → IsJudge j → total_of j.door + j.in_line < j.way
+pub turns-one : (j u : Judge) → IsJudge j → total_of j.door + j.in_line - early_in j.broken < j.way
     → u.free ≡ j.free + 1 → u.way + 1 ≡ j.way → u.held ≡ j.held → u.in_line ≡ j.in_line → u.door ≡ j.door
-    → u.table ≡ j.table → TurnsBack j u
-turns-one j u judge many free way held in_line door table = record {
+    → u.table ≡ j.table → u.broken ≡ j.broken → TurnsBack j u
+turns-one j u judge many free way held in_line door table broken = record {
   judge = record {
     table = rw table judge.table;
     door = rw door judge.door;
     in_line = in_line ∙ judge.in_line ∙ sym (ap (λ t. length (line_of t)) table);
+    broken = same-broken j.table u.table j.broken u.broken table broken judge.broken;
+    apart = same-apart j.table u.table j.broken u.broken table broken judge.apart;
     few = omega (arith, judge.few, free, way, held);
   };
   stands = λ o stands.
@@ -246,6 +252,7 @@ turns-one j u judge many free way held in_line door table = record {
         line = rw table stands.line;
         served = rw table stands.served;
         door = rw door stands.door;
+        broken = rw broken stands.broken;
       });
 }
 

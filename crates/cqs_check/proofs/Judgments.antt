@@ -1,21 +1,24 @@
 -- Entry by entry: what the judge tests is where the entry may come, and what it changes is what the entry changes.
-use Rattle.std.proofs.Common.{◌≡◌, ◌≢◌, ◌⊎◌, inl, inr, ℕ, zero, suc, ◌+◌, ◌-◌, ◌<◌, ◌≤◌, List, [], ◌∷◌, ◌++◌, length, set, take, Option, Some, None, true, false, slice_get, slice_set, refl, sym, ap, ap₂, ◌∙◌, subst, arith, length-append}
+use Rattle.std.proofs.Common.{◌≡◌, ◌≢◌, ◌⊎◌, inl, inr, ℕ, zero, suc, ◌+◌, ◌<◌, ◌≤◌, List, [], ◌∷◌, ◌++◌, length, take, Some, None, true, false, true≢false, slice_get, refl, sym, ap, ap₂, ◌∙◌, subst, arith}
 use Rattle.std.proofs.lemmas.List.{length_push}
 use Rattle.cqs_core.specs.declared.entries.Entry.TheVariants as entry
-use Rattle.cqs_core.specs.Numbered.{pick_each, IsIn}
+use Rattle.cqs_core.specs.Numbered.{pick_each}
 use Rattle.cqs_core.specs.Keyed.{insert_by, without}
 use Rattle.cqs_core.specs.QueueLine.{Waiting, Service}
 use Rattle.cqs_core.specs.QueueWaiters.{Waits, find_wait, with_service}
-use Rattle.cqs_core.specs.SemaphoreObject.{Semaphore, due}
-use Rattle.cqs_core.specs.SemaphoreEntries.{IsAllowed, after_entry}
+use Rattle.cqs_core.specs.SemaphoreObject.{Semaphore, early}
+use Rattle.cqs_core.specs.SemaphoreEntries.{after_enter, has_spoiled}
 use Rattle.cqs_check.specs.declared.judge.Judge.{Judge}
 use Rattle.cqs_check.specs.declared.waits.WaitState.{WaitState}
 use Rattle.cqs_check.specs.declared.waits.WaitState.TheVariants as wait
 use Rattle.cqs_check.specs.declared.waits.Table.{Table}
-use Rattle.cqs_check.specs.Doors.{IsDoor, HasDoor, Comes, Goes, times, many_of, total_of}
-use Rattle.cqs_check.specs.Lines.{IsTable, Becomes, Enters, line_of, served_of, waiting_at, served_at, flag}
+use Rattle.cqs_check.specs.Doors.{Comes, Goes, many_of, total_of}
+use Rattle.cqs_check.specs.Lines.{Becomes, Enters, line_of, served_of, waiting_at, served_at}
 use Rattle.cqs_check.specs.Judging.{IsJudge, Judged, Stands}
-use Rattle.cqs_check.proofs.Among.{StandsAt, among-stands}
+use Rattle.cqs_check.specs.BrokenNumbers.{owner_in, early_in}
+use Rattle.cqs_check.proofs.Among.{among-stands}
+use Rattle.cqs_check.proofs.BrokenLists.{none-whole, broken-next}
+use Rattle.cqs_check.proofs.Kept.{became-length, became-broken, became-apart, same-broken, same-apart, entered-broken, entered-apart}
 use Rattle.cqs_check.proofs.Shown.{line-entered, line-left, line-shorter, service-came, service-entered, found-there}
 use Rattle.cqs_check.proofs.Times.{times-in, in-times, door-goes, door-comes}
 
@@ -36,8 +39,8 @@ among-some t (suc way) k c waits = omega arith
 pub deliver-judged : (j u : Judge) (k c : ℕ) → IsJudge j → Waits k c (take j.way (line_of j.table))
     → Becomes j.table k (wait.Served c) u.table
     → u.free ≡ j.free → u.way + 1 ≡ j.way → u.held ≡ j.held + 1 → u.in_line + 1 ≡ j.in_line → u.door ≡ j.door
-    → Judged j (entry.Deliver k) true u
-deliver-judged j u k c judge among becomes free way held in_line door =
+    → u.broken ≡ j.broken → Judged j (entry.Deliver k) true u
+deliver-judged j u k c judge among becomes free way held in_line door broken =
     let there = among-there j.table j.way k c among in
     let ws : List WaitState = j.table.waits.items in
     let line : line_of u.table ≡ without (λ (w : Waiting). w.wait) k (line_of j.table)
@@ -56,6 +59,8 @@ deliver-judged j u k c judge among becomes free way held in_line door =
         table = becomes.table;
         door = rw door judge.door;
         in_line = omega (arith, judge.in_line, in_line, shorter);
+        broken = became-broken j.table u.table k (wait.Served c) j.broken u.broken becomes broken judge.broken;
+        apart = became-apart j.table u.table k (wait.Served c) j.broken u.broken refl becomes broken judge.apart;
         few = omega (arith, judge.few, free, way, held);
       },
       λ o stands. (
@@ -64,19 +69,15 @@ deliver-judged j u k c judge among becomes free way held in_line door =
           free = stands.free ∙ sym free;
           way = omega (arith, stands.way, way);
           held = omega (arith, stands.held, held);
-          next = stands.next ∙ same_length ws k (wait.Served c) ∙ sym (ap length becomes.waits);
+          next = stands.next ∙ sym (became-length j.table u.table k (wait.Served c) becomes);
           line = ap (without (λ (w : Waiting). w.wait) k) stands.line ∙ sym line;
           served = services o stands found ∙ sym served;
           door = rw door stands.door;
+          broken = rw broken stands.broken;
         },
       ),
     )
   where
-    same_length : (xs : List WaitState) (i : ℕ) (x : WaitState) → length xs ≡ length (set xs i x)
-    same_length [] i x = refl
-    same_length (y ∷ ys) zero x = refl
-    same_length (y ∷ ys) (suc i) x = ap suc (same_length ys i x)
-
     services : (o : Semaphore) → Stands j o → find_wait k (line_of j.table) ≡ Some (record { wait = k; pass = c })
         → with_service (find_wait k o.line) o.served
         ≡ insert_by (λ (s : Service). s.wait) (record { wait = k; pass = c; is_open = true }) (served_of j.table)
@@ -92,10 +93,12 @@ deliver-refused j u k none = λ o stands may.
 
 -- a caller goes from the door to the line
 pub enter-judged : (j u : Judge) (c k : ℕ) → IsJudge j → k ≡ length j.table.waits.items → 0 < many_of j.door c
+    → owner_in j.broken k ≡ None → early_in j.broken < total_of j.door
     → Enters j.table c u.table → Goes j.door c u.door
-    → u.free ≡ j.free → u.way ≡ j.way → u.held ≡ j.held → u.in_line ≡ j.in_line + 1
+    → u.free ≡ j.free → u.way ≡ j.way → u.held ≡ j.held → u.in_line ≡ j.in_line + 1 → u.broken ≡ j.broken
     → Judged j (entry.Enter c k) true u
-enter-judged j u c k judge number here enters goes free way held in_line =
+enter-judged j u c k judge number here none room enters goes free way held in_line broken =
+    let whole : owner_in j.broken (length j.table.waits.items) ≡ None = ap (owner_in j.broken) (sym number) ∙ none in
     let ws : List WaitState = j.table.waits.items in
     let line : line_of u.table ≡ line_of j.table ++ record { wait = length ws; pass = c } ∷ []
     = ap (λ l. pick_each waiting_at 0 l) enters.waits ∙ line-entered ws c in
@@ -111,20 +114,38 @@ enter-judged j u c k judge number here enters goes free way held in_line =
               door-goes j.door u.door c goes judge.door.callers judge.door.door;
         };
         in_line = omega (arith, judge.in_line, in_line, long);
+        broken = entered-broken j.broken u.broken ws u.table.waits.items (wait.Waiting c) enters.waits broken whole
+            judge.broken;
+        apart = entered-apart j.broken u.broken ws u.table.waits.items (wait.Waiting c) enters.waits broken whole
+            judge.apart;
         few = omega (arith, judge.few, free, way, held);
       },
-      λ o stands. (
-        (times-in c o.door (subst (λ n. 0 < n) (stands.door.many c) here), number ∙ sym stands.next),
-        record {
-          free = stands.free ∙ sym free;
-          way = stands.way ∙ sym way;
-          held = stands.held ∙ sym held;
-          next = ap (λ n. n + 1) stands.next ∙ sym (ap length enters.waits ∙ length_push ws (wait.Waiting c));
-          line = ap₂ (λ l n. l ++ record { wait = n; pass = c } ∷ []) stands.line number ∙ sym line;
-          served = stands.served ∙ sym served;
-          door = door-goes j.door u.door c goes o.door stands.door;
-        },
-      ),
+      λ o stands.
+          let next : k ≡ o.next = number ∙ sym stands.next in
+          let missing : has_spoiled k o.spoiled ≡ false =
+          none-whole k o.spoiled (sym (stands.broken.owners k) ∙ none) in
+          let after : after_enter o c k ≡ record o {
+            door = without (λ d. d) c o.door;
+            line = o.line ++ record { wait = k; pass = c } ∷ [];
+            next = o.next + 1;
+          } = rw missing refl in (
+            (
+              times-in c o.door (subst (λ n. 0 < n) (stands.door.many c) here),
+              next,
+              inr (omega (arith, room, stands.broken.early, stands.door.total)),
+            ),
+            rw after (record {
+              free = stands.free ∙ sym free;
+              way = stands.way ∙ sym way;
+              held = stands.held ∙ sym held;
+              next = ap (λ n. n + 1) stands.next ∙ sym (ap length enters.waits ∙ length_push ws (wait.Waiting c));
+              line = ap₂ (λ l n. l ++ record { wait = n; pass = c } ∷ []) stands.line number ∙ sym line;
+              served = stands.served ∙ sym served;
+              door = door-goes j.door u.door c goes o.door stands.door;
+              broken = rw broken (broken-next j.broken o.next o.spoiled stands.broken
+                  (ap (owner_in j.broken) (sym next) ∙ none));
+            }),
+          ),
     )
 
 pub enter-refused : (j u : Judge) (c k : ℕ) → (k ≢ length j.table.waits.items) ⊎ (many_of j.door c ≡ 0)
@@ -132,10 +153,22 @@ pub enter-refused : (j u : Judge) (c k : ℕ) → (k ≢ length j.table.waits.it
 enter-refused j u c k (inl other) = λ o stands may. other (may.1 ∙ stands.next)
 enter-refused j u c k (inr none) = λ o stands may. omega (arith, none, stands.door.many c, in-times c o.door may.0)
 
+-- the next number isn't broken, and no caller at the door is to come to it
+pub enter-uncovered : (j u : Judge) (c k : ℕ) → owner_in j.broken k ≡ None → total_of j.door ≤ early_in j.broken
+    → Judged j (entry.Enter c k) false u
+enter-uncovered j u c k none full = λ o stands may. go o stands may.2
+  where
+    go : (o : Semaphore) → Stands j o → (has_spoiled k o.spoiled ≡ true) ⊎ (early o < length o.door) → ⊥
+    go o stands (inl broken) =
+        let missing : has_spoiled k o.spoiled ≡ false =
+        none-whole k o.spoiled (sym (stands.broken.owners k) ∙ none) in
+        absurd (true≢false (sym broken ∙ missing))
+    go o stands (inr room) = omega (arith, room, full, stands.broken.early, stands.door.total)
+
 -- somebody stands in the line where somebody is among the first
 pub some-in_line : (j : Judge) (k c : ℕ) → IsJudge j → slice_get j.table.waits.items k ≡ Some (wait.Waiting c)
     → 0 < j.in_line
-some-in_line j k c judge there = omega (arith, judge.in_line, line-shorter j.table.waits.items k c wait.Left there refl)
+some-in_line j k c judge there = omega (arith, judge.in_line, line-shorter j.table.waits.items k c wait.Gone there refl)
 
 -- the line is no longer than the table
 line-few : (k : ℕ) (ws : List WaitState) → length (pick_each waiting_at k ws) ≤ length ws
@@ -143,7 +176,7 @@ line-few k [] = omega arith
 line-few k (wait.Waiting c ∷ ws) = omega (arith, line-few (suc k) ws)
 line-few k (wait.Served c ∷ ws) = omega (arith, line-few (suc k) ws)
 line-few k (wait.Closed c ∷ ws) = omega (arith, line-few (suc k) ws)
-line-few k (wait.Left ∷ ws) = omega (arith, line-few (suc k) ws)
+line-few k (wait.Gone ∷ ws) = omega (arith, line-few (suc k) ws)
 
 pub line-fits : (j : Judge) → IsJudge j → j.in_line ≤ length j.table.waits.items
 line-fits j judge = omega (arith, judge.in_line, line-few 0 j.table.waits.items)
@@ -151,8 +184,8 @@ line-fits j judge = omega (arith, judge.in_line, line-few 0 j.table.waits.items)
 -- a caller comes to the door
 pub come-judged : (j u : Judge) (c : ℕ) → IsJudge j → j.free ≡ 0 → Comes j.door c u.door
     → u.free ≡ j.free → u.way ≡ j.way → u.held ≡ j.held → u.in_line ≡ j.in_line → u.table ≡ j.table
-    → Judged j (entry.TakeDoor c) true u
-come-judged j u c judge none comes free way held in_line table = (
+    → u.broken ≡ j.broken → Judged j (entry.TakeDoor c) true u
+come-judged j u c judge none comes free way held in_line table broken = (
   record {
     table = rw table judge.table;
     door = record {
@@ -161,6 +194,8 @@ come-judged j u c judge none comes free way held in_line table = (
           door-comes j.door u.door c comes judge.door.callers judge.door.door;
     };
     in_line = in_line ∙ judge.in_line ∙ sym (ap (λ t. length (line_of t)) table);
+    broken = same-broken j.table u.table j.broken u.broken table broken judge.broken;
+    apart = same-apart j.table u.table j.broken u.broken table broken judge.apart;
     few = omega (arith, judge.few, free, way, held);
   },
   λ o stands. (
@@ -173,6 +208,7 @@ come-judged j u c judge none comes free way held in_line table = (
       line = rw table stands.line;
       served = rw table stands.served;
       door = door-comes j.door u.door c comes o.door stands.door;
+      broken = rw broken stands.broken;
     },
   ),
 )

@@ -1,5 +1,5 @@
 -- A text is that of one history, and then no line of it is bad.
-use Rattle.std.proofs.Common.{◌≡◌, ℕ, List, ◌∷◌, [], ap}
+use Rattle.std.proofs.Common.{◌≡◌, ℕ, List}
 use Rattle.cqs_lines.specs.Headed.{IsHeaded}
 use Rattle.cqs_lines.proofs.Unique.{headed-unique, headed-good}
 use Rattle.cqs_replay.specs.EntryLines.{entry_says, IsEntry}

@@ -1,14 +1,14 @@
 -- What the line and the services become where one wait of the table changes.
-use Rattle.std.proofs.Common.{◌≡◌, ◌≢◌, ◌⊎◌, inl, inr, ℕ, zero, suc, ◌+◌, ◌<◌, ◌≤◌, List, [], ◌∷◌, ◌++◌, length, set, Option, Some, None, true, false, slice_get, refl, sym, ap, ◌∙◌, subst, arith, eq-eqb, ne_eqb, ◌==◌, append-nil}
-use Rattle.cqs_core.specs.Numbered.{pick_each, cons_option}
+use Rattle.std.proofs.Common.{◌≡◌, ◌≢◌, ℕ, ◌+◌, List, [], ◌∷◌, ◌++◌, length, set, Some, None, true, false, slice_get, refl, sym, ap, ◌∙◌, arith, eq-eqb, ne_eqb, append-nil}
+use Rattle.cqs_core.specs.Numbered.{pick_each}
 use Rattle.cqs_core.specs.Keyed.{insert_by, without, change_by}
 use Rattle.cqs_core.specs.QueueLine.{Waiting, Service}
-use Rattle.cqs_core.specs.QueueWaiters.{find_wait, with_service}
+use Rattle.cqs_core.specs.QueueWaiters.{find_wait}
 use Rattle.cqs_core.proofs.Keys.{Around, AllBelow, around-came, around-went, around-changed, around-kept, around-shorter}
-use Rattle.cqs_core.proofs.Picked.{IsKeyed, AgreeBut, picked-around, picked-push}
+use Rattle.cqs_core.proofs.Picked.{picked-around, picked-push}
 use Rattle.cqs_check.specs.declared.waits.WaitState.{WaitState}
 use Rattle.cqs_check.specs.declared.waits.WaitState.TheVariants as wait
-use Rattle.cqs_check.specs.Lines.{waiting_at, served_at, flag}
+use Rattle.cqs_check.specs.Lines.{waiting_at, served_at}
 
 wait_of : Waiting → ℕ
 wait_of w = w.wait
@@ -21,7 +21,7 @@ line-key k (wait.Waiting c) w some = let is : record { wait = k; pass = c } ≡ 
     ap (λ (v : Waiting). v.wait) (sym is)
 line-key k (wait.Served c) w some = absurd (cc)
 line-key k (wait.Closed c) w some = absurd (cc)
-line-key k wait.Left w some = absurd (cc)
+line-key k wait.Gone w some = absurd (cc)
 
 service-key : (k : ℕ) (x : WaitState) (s : Service) → served_at k x ≡ Some s → s.wait ≡ k
 service-key k (wait.Waiting c) s some = absurd (cc)
@@ -29,7 +29,7 @@ service-key k (wait.Served c) s some = let is : record { wait = k; pass = c; is_
     ap (λ (v : Service). v.wait) (sym is)
 service-key k (wait.Closed c) s some = let is : record { wait = k; pass = c; is_open = false } ≡ s = cc in
     ap (λ (v : Service). v.wait) (sym is)
-service-key k wait.Left s some = absurd (cc)
+service-key k wait.Gone s some = absurd (cc)
 
 line-around : (ws : List WaitState) (k : ℕ) (old new : WaitState) → slice_get ws k ≡ Some old
     → Around (λ (w : Waiting). w.wait) k (pick_each waiting_at 0 ws) (pick_each waiting_at 0 (set ws k new))
@@ -102,13 +102,22 @@ find-around k (v ∷ front) back w low here =
 pub found-there : (ws : List WaitState) (k c : ℕ) → slice_get ws k ≡ Some (wait.Waiting c)
     → find_wait k (pick_each waiting_at 0 ws) ≡ Some (record { wait = k; pass = c })
 found-there ws k c there =
-    let a = line-around ws k (wait.Waiting c) wait.Left there in
+    let a = line-around ws k (wait.Waiting c) wait.Gone there in
     rw a.was (find-around k a.front a.back (record { wait = k; pass = c }) a.low refl)
 
 -- a new wait is no service
 pub service-entered : (ws : List WaitState) (c : ℕ)
     → pick_each served_at 0 (ws ++ wait.Waiting c ∷ []) ≡ pick_each served_at 0 ws
 service-entered ws c = picked-push served_at 0 ws (wait.Waiting c) (length ws) (omega arith)
+    ∙ append-nil (pick_each served_at 0 ws)
+
+-- and a number that is nobody's is neither in the line nor a service
+pub line-passed : (ws : List WaitState) → pick_each waiting_at 0 (ws ++ wait.Gone ∷ []) ≡ pick_each waiting_at 0 ws
+line-passed ws = picked-push waiting_at 0 ws wait.Gone (length ws) (omega arith)
+    ∙ append-nil (pick_each waiting_at 0 ws)
+
+pub service-passed : (ws : List WaitState) → pick_each served_at 0 (ws ++ wait.Gone ∷ []) ≡ pick_each served_at 0 ws
+service-passed ws = picked-push served_at 0 ws wait.Gone (length ws) (omega arith)
     ∙ append-nil (pick_each served_at 0 ws)
 
 -- and the line is shorter by one that left it

@@ -1,5 +1,5 @@
 -- What a table of waits tells of its line.
-use Rattle.std.proofs.Common.{◌≡◌, ◌≢◌, ◌⊎◌, inl, inr, ℕ, zero, suc, ◌+◌, ◌<◌, ◌≤◌, List, [], ◌∷◌, ◌++◌, length, take, set, Option, Some, None, count_by, slice_get, slice_index, refl, sym, ap, ◌∙◌, subst, arith}
+use Rattle.std.proofs.Common.{◌≡◌, ◌≢◌, ◌⊎◌, inl, inr, ℕ, zero, suc, ◌<◌, ◌≤◌, List, [], ◌∷◌, ◌++◌, length, take, set, Some, None, slice_get, refl, sym, ap, ◌∙◌, arith}
 use Rattle.cqs_core.specs.QueueWaiters.{Waits}
 use Rattle.std.proofs.lemmas.Bool.{cases_eq, cases_lt}
 use Rattle.std.proofs.lemmas.List.{length_push}
@@ -7,10 +7,10 @@ use Rattle.cqs_core.proofs.Places.{get-below, get-set_here, get-set_else, get-ap
 use Rattle.cqs_check.specs.declared.waits.WaitState.{WaitState}
 use Rattle.cqs_check.specs.declared.waits.WaitState.TheVariants as wait
 use Rattle.cqs_check.specs.declared.waits.Table.{Table}
-use Rattle.cqs_check.specs.Trees.{total, stands_before, IsTree, IsLowered, IsRaised, leaf, size_of, raised_of}
+use Rattle.cqs_check.specs.Trees.{stands_before, IsTree, IsLowered, IsRaised, leaf, size_of, raised_of}
 use Rattle.cqs_check.specs.Lines.{IsTable, line_of, standing, flag}
 use Rattle.cqs_check.proofs.Totals.{total-flags}
-use Rattle.cqs_check.proofs.Among.{StandsAt, stands-among, among-stands}
+use Rattle.cqs_check.proofs.Among.{stands-among, among-stands}
 
 -- what the tree counts before a wait is its place in the line
 pub counted : (t : Table) (k : ℕ) → IsTable t → k < length t.waits.items
@@ -53,7 +53,7 @@ pub lowered-table : (t u : Table) (k : ℕ) (old new : WaitState) → IsTable t 
 lowered-table t u k old new table there stood gone written tree lowered = record {
   tree = tree;
   room = omega (arith, table.room, ap length written, length-set t.waits.items k new, lowered.size);
-  entered = lowered.raised ∙ table.entered ∙ sym (ap length written ∙ length-set t.waits.items k new);
+  entered = omega (arith, lowered.raised, table.entered, ap length written, length-set t.waits.items k new);
   flags = λ j low. go j (omega (arith, low, lowered.size)) (cases_eq j k);
 }
   where
@@ -78,7 +78,13 @@ pub changed-table : (t u : Table) (k : ℕ) (old new : WaitState) → IsTable t 
 changed-table t u k old new table there stood gone written same_tree = record {
   tree = rw same_tree table.tree;
   room = omega (arith, table.room, ap length written, length-set t.waits.items k new, ap size_of same_tree);
-  entered = ap raised_of same_tree ∙ table.entered ∙ sym (ap length written ∙ length-set t.waits.items k new);
+  entered = omega (
+    arith,
+    ap raised_of same_tree,
+    table.entered,
+    ap length written,
+    length-set t.waits.items k new,
+  );
   flags = λ j low. go j (omega (arith, low, ap size_of same_tree)) (cases_eq j k);
 }
   where
@@ -100,8 +106,13 @@ pub entered-table : (t u : Table) (c : ℕ) → IsTable t → length t.waits.ite
 entered-table t u c table low written tree raised = record {
   tree = tree;
   room = omega (arith, low, ap length written, length_push t.waits.items (wait.Waiting c), raised.size);
-  entered = raised.raised ∙ ap (λ n. n + 1) table.entered
-      ∙ sym (ap length written ∙ length_push t.waits.items (wait.Waiting c));
+  entered = omega (
+    arith,
+    raised.raised,
+    table.entered,
+    ap length written,
+    length_push t.waits.items (wait.Waiting c),
+  );
   flags = λ j small. go j (omega (arith, small, raised.size)) (cases_lt j (length t.waits.items));
 }
   where
@@ -131,3 +142,41 @@ entered-table t u c table low written tree raised = record {
             = get-past u.waits.items j (omega
             (arith, past, other, ap length written, length_push t.waits.items (wait.Waiting c))) in
             raised.others j other ∙ table.flags j small ∙ ap flag (none ∙ sym past_u)
+
+-- the next number is nobody's
+pub passed-table : (t u : Table) → IsTable t → length t.waits.items < size_of t.counts
+    → u.waits.items ≡ t.waits.items ++ wait.Gone ∷ [] → u.counts ≡ t.counts → IsTable u
+passed-table t u table low written same_tree = record {
+  tree = rw same_tree table.tree;
+  room = omega (arith, low, ap length written, length_push t.waits.items wait.Gone, ap size_of same_tree);
+  entered = omega (
+    arith,
+    ap raised_of same_tree,
+    table.entered,
+    ap length written,
+    length_push t.waits.items wait.Gone,
+  );
+  flags = λ j small. ap (λ c. leaf c j) same_tree
+      ∙ go j (omega (arith, small, ap size_of same_tree)) (cases_lt j (length t.waits.items));
+}
+  where
+    go : (j : ℕ) → j < size_of t.counts → (j < length t.waits.items) ⊎ (length t.waits.items ≤ j)
+        → leaf t.counts j ≡ flag (slice_get u.waits.items j)
+    go j small (inl below) =
+        let same : slice_get u.waits.items j ≡ slice_get t.waits.items j
+        = ap (λ l. slice_get l j) written ∙ get-append_below t.waits.items (wait.Gone ∷ []) j below in
+        table.flags j small ∙ ap flag (sym same)
+    go j small (inr past) =
+        let none : slice_get t.waits.items j ≡ None = get-past t.waits.items j past in
+        table.flags j small ∙ ap flag none ∙ last (cases_eq j (length t.waits.items))
+      where
+        last : (j ≡ length t.waits.items) ⊎ (j ≢ length t.waits.items) → 0 ≡ flag (slice_get u.waits.items j)
+        last (inl same) =
+            let here : slice_get u.waits.items j ≡ Some wait.Gone = ap (λ l. slice_get l j) written
+            ∙ get-push_at t.waits.items wait.Gone j same in
+            rw here refl
+        last (inr other) =
+            let past_u : slice_get u.waits.items j ≡ None
+            = get-past u.waits.items j (omega
+            (arith, past, other, ap length written, length_push t.waits.items wait.Gone)) in
+            rw past_u refl

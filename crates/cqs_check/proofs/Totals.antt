@@ -1,5 +1,5 @@
 -- Sums along one level of a tree of pairs.
-use Rattle.std.proofs.Common.{◌≡◌, ◌≢◌, ◌⊎◌, inl, inr, ℕ, zero, suc, ◌+◌, ◌-◌, ◌*◌, ◌/◌, ◌%◌, ◌^◌, ◌<◌, ◌≤◌, List, [], ◌∷◌, length, take, Option, Some, None, count_by, slice_get, slice_index, refl, sym, ap, ap₂, ◌∙◌, subst, arith}
+use Rattle.std.proofs.Common.{◌≡◌, ◌⊎◌, inl, inr, ℕ, zero, suc, ◌+◌, ◌^◌, ◌<◌, ◌≤◌, List, [], ◌∷◌, take, slice_get, slice_index, refl, ap, ◌∙◌, arith}
 use Rattle.std.proofs.lemmas.Bool.{cases_lt}
 use Rattle.cqs_check.specs.Trees.{total, IsPair}
 use Rattle.cqs_check.specs.declared.waits.WaitState.{WaitState}
@@ -64,7 +64,7 @@ count-take (suc n) [] = refl
 count-take zero (wait.Waiting c ∷ ws) = refl
 count-take zero (wait.Served c ∷ ws) = refl
 count-take zero (wait.Closed c ∷ ws) = refl
-count-take zero (wait.Left ∷ ws) = refl
+count-take zero (wait.Gone ∷ ws) = refl
 count-take (suc n) (wait.Waiting c ∷ ws) =
     omega (
       arith,
@@ -76,7 +76,7 @@ count-take (suc n) (wait.Waiting c ∷ ws) =
     )
 count-take (suc n) (wait.Served c ∷ ws) = count-take n ws
 count-take (suc n) (wait.Closed c ∷ ws) = count-take n ws
-count-take (suc n) (wait.Left ∷ ws) = count-take n ws
+count-take (suc n) (wait.Gone ∷ ws) = count-take n ws
 
 pub total-flags : (t : List ℕ) (from : ℕ) (ws : List WaitState) (n : ℕ)
     → ((k : ℕ) → k < n → slice_index t (from + k) ≡ flag (slice_get ws k))

@@ -1,8 +1,7 @@
 -- How often each caller stands at the door.
-use Rattle.std.specs.Prelude.{◌≡◌, ◌≢◌, ◌==◌, ℕ, suc, ◌+◌, ◌<◌, ◌≤◌, List, [], ◌∷◌, length, unwrap_or, if◌then◌else◌}
+use Rattle.std.specs.Prelude.{◌≡◌, ◌≢◌, ◌==◌, ℕ, suc, ◌+◌, List, [], ◌∷◌, length, unwrap_or, if◌then◌else◌}
 use Rattle.std.specs.Ordering.{nat_cmp}
 use Rattle.std.specs.BTreeMap.{get}
-use Rattle.cqs_core.specs.Keyed.{insert_by, without}
 use Rattle.cqs_check.specs.declared.door.Door.{Door}
 
 abbrev pub many_of : Door → ℕ → ℕ

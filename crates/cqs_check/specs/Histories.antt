@@ -1,7 +1,7 @@
 -- Which texts are histories: a head that says how many permits there are, and a line for each
 -- entry.
-use Rattle.std.specs.Prelude.{◌≡◌, ◌≢◌, ℕ, ◌<◌, ◌≤◌, List, [], ◌∷◌, Option, Some, None, Result, Ok, Err}
-use Rattle.cqs_lines.specs.Said.{Said, said, line_text}
+use Rattle.std.specs.Prelude.{◌≡◌, ◌≢◌, ℕ, ◌<◌, ◌≤◌, List, [], Option, Some, None, Result, Ok, Err}
+use Rattle.cqs_lines.specs.Said.{said, line_text}
 use Rattle.cqs_lines.specs.Forms.{lines_text, AllFit}
 use Rattle.cqs_lines.specs.Headed.{IsFirstBadHeaded}
 use Rattle.cqs_replay.specs.Runs.{permits_say}

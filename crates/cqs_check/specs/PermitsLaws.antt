@@ -1,5 +1,5 @@
 -- What the first line of a history says is a line.
-use Rattle.std.specs.Prelude.{◌≡◌, ℕ, codes, refl}
+use Rattle.std.specs.Prelude.{ℕ, codes, refl}
 use Rattle.cqs_lines.specs.Said.{IsLine}
 use Rattle.cqs_lines.proofs.Verbs.{line-permits}
 use Rattle.cqs_replay.specs.Runs.{permits_say}

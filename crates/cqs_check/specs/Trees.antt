@@ -1,5 +1,5 @@
 -- A tree of counts in one list: the children of node i are the nodes 2 i and 2 i + 1.
-use Rattle.std.specs.Prelude.{◌≡◌, ◌≢◌, ℕ, zero, suc, ◌+◌, ◌*◌, ◌-◌, ◌<◌, ◌≤◌, ◌^◌, ◌%◌, List, length, slice_index}
+use Rattle.std.specs.Prelude.{◌≡◌, ◌≢◌, ℕ, zero, suc, ◌+◌, ◌-◌, ◌<◌, ◌≤◌, ◌^◌, ◌%◌, List, length, slice_index}
 use Rattle.cqs_check.specs.declared.counts.Counts.{Counts}
 
 -- the sum of so many nodes from one on

@@ -1,11 +1,14 @@
 //! The judge of one entry after the other: it keeps what the plain semaphore is after them.
 
-ghost use Rattle.std.specs.Prelude.{◌≡◌, ◌+◌, ◌<◌, ◌≤◌, ◌^◌, IfOk, ℕ, Some, slice_get};
+ghost use Rattle.std.specs.Prelude.{◌≡◌, ◌+◌, ◌-◌, ◌<◌, ◌≤◌, ◌^◌, IfOk, OnOk, ℕ, Some, IsSome, true, length, take, slice_get};
 ghost use Rattle.cqs_core.specs.declared.entries.Entry.TheVariants as entry;
 ghost use Rattle.cqs_core.specs.SemaphoreObject.{Semaphore, opening};
 ghost use Rattle.cqs_check.specs.declared.waits.WaitState.TheVariants as became;
-ghost use Rattle.cqs_check.specs.Judging.{IsJudge, Judged, Stands, HasRoom, DropsOut, TurnsBack, total_of};
+ghost use Rattle.cqs_core.specs.QueueWaiters.{Waits};
+ghost use Rattle.cqs_check.specs.Doors.{many_of};
+ghost use Rattle.cqs_check.specs.Judging.{IsJudge, Judged, Stands, HasRoom, DropsOut, TurnsBack, early_in, line_of, owner_in, total_of};
 
+use crate::broken::Broken;
 use crate::door::Door;
 use crate::waits::{Table, WaitState};
 use cqs_core::Entry;
@@ -19,6 +22,7 @@ pub struct Judge {
     pub held: u32,
     pub in_line: u32,
     pub door: Door,
+    pub broken: Broken,
     pub table: Table,
 }
 
@@ -58,7 +62,7 @@ impl Judge {
         Ok(true)
     }
 
-    /// A caller goes from the door to the end of the line.
+    /// A caller goes from the door to the end of the line, or to its number, where that was broken.
     fn enter(&mut self, caller: u32, wait: u64) -> bool
         requires judge { IsJudge self.old }
         requires room { HasRoom self.old.table }
@@ -70,18 +74,41 @@ impl Judge {
         if self.door.many(caller) == 0 {
             return false;
         }
+        if self.broken.has(wait) {
+            self.enter_broken(caller, wait);
+            return true;
+        }
+        if self.broken.early() >= self.door.total() {
+            return false;
+        }
         self.door.go(caller);
         self.table.enter(caller);
         self.in_line += 1;
         true
     }
 
-    /// How many wait: at the door, and in the line.
+    /// A caller goes from the door to the next number, which was broken.
+    fn enter_broken(&mut self, caller: u32, wait: u64)
+        requires judge { IsJudge self.old }
+        requires room { HasRoom self.old.table }
+        requires next { wait ≡ length self.old.table.waits.items }
+        requires there { 0 < many_of self.old.door caller }
+        requires broken { IsSome (owner_in self.old.broken wait) }
+        ensures { Judged self.old (entry.Enter caller wait) true self.new }
+    {
+        self.door.go(caller);
+        self.broken.draw(wait, caller);
+        self.table.pass_over();
+    }
+
+    /// How many wait for a permit: at the door, but for those who will come to a broken number,
+    /// and in the line.
     fn due(&self) -> u64
         requires { IsJudge self.now }
-        ensures { result ≡ total_of self.now.door + self.now.in_line }
+        ensures { result ≡ total_of self.now.door + self.now.in_line - early_in self.now.broken }
     {
-        u64::from(self.door.total()) + u64::from(self.in_line)
+        let many = u64::from(self.door.total()) + u64::from(self.in_line);
+        many.saturating_sub(u64::from(self.broken.early()))
     }
 
     /// A permit is given back, and nobody waits for one.
@@ -128,6 +155,72 @@ impl Judge {
         }
     }
 
+    /// A permit on its way is taken back, and its number is broken.
+    fn spoil(&mut self, wait: u64) -> Result<bool, AllocError>
+        requires { IsJudge self.old }
+        ensures { IfOk result
+            (λ admits. (c : ℕ) → Judged self.old (entry.Spoil c wait) admits self.new) }
+    {
+        match self.table.among_first(self.way, wait) {
+            Some(owner) => {
+                self.spoil_wait(owner, wait)?;
+                Ok(true)
+            }
+            None => self.spoil_early(wait),
+        }
+    }
+
+    /// A permit on its way to a wait of the line is taken back.
+    fn spoil_wait(&mut self, owner: u32, wait: u64) -> Result<(), AllocError>
+        requires judge { IsJudge self.old }
+        requires among { Waits wait owner (take self.old.way (line_of self.old.table)) }
+        ensures { OnOk result ((c : ℕ) → Judged self.old (entry.Spoil c wait) true self.new) }
+    {
+        self.broken.add_drawn(wait, owner)?;
+        self.table.take_out(wait as usize, WaitState::Gone);
+        self.in_line -= 1;
+        self.way -= 1;
+        self.held += 1;
+        Ok(())
+    }
+
+    /// A permit on its way to a number that nobody has drawn is taken back.
+    fn spoil_early(&mut self, wait: u64) -> Result<bool, AllocError>
+        requires judge { IsJudge self.old }
+        requires none { (c : ℕ) → ¬ Waits wait c (take self.old.way (line_of self.old.table)) }
+        ensures { IfOk result
+            (λ admits. (c : ℕ) → Judged self.old (entry.Spoil c wait) admits self.new) }
+    {
+        if wait < self.table.waits.len() as u64 {
+            return Ok(false);
+        }
+        if self.broken.has(wait) {
+            return Ok(false);
+        }
+        if self.way == 0 {
+            return Ok(false);
+        }
+        if self.broken.early() >= self.door.total() {
+            return Ok(false);
+        }
+        self.broken.add_early(wait)?;
+        self.way -= 1;
+        self.held += 1;
+        Ok(true)
+    }
+
+    /// A caller comes to its number, which was broken.
+    fn undo(&mut self, caller: u32, wait: u64) -> bool
+        requires { IsJudge self.old }
+        ensures { Judged self.old (entry.Undo caller wait) result self.new }
+    {
+        if !self.broken.is_of(wait, caller) {
+            return false;
+        }
+        self.broken.remove(wait);
+        true
+    }
+
     /// A caller leaves the line. A permit on its way for which nobody waits then is free again.
     fn leave(&mut self, caller: u32, wait: u64) -> bool
         requires { IsJudge self.old }
@@ -147,7 +240,7 @@ impl Judge {
         requires stands { slice_get self.old.table.waits.items wait ≡ Some (became.Waiting caller) }
         ensures { DropsOut self.old caller wait self.new }
     {
-        self.table.take_out(wait as usize, WaitState::Left);
+        self.table.take_out(wait as usize, WaitState::Gone);
         self.in_line -= 1;
     }
 
@@ -199,6 +292,7 @@ impl Judge {
             held: 0,
             in_line: 0,
             door: Door::new(alloc),
+            broken: Broken::new(alloc),
             table,
         })
     }
@@ -226,6 +320,8 @@ impl Judge {
             Entry::GiveFreed { .. } => Ok(self.give_free()),
             Entry::GiveSent { .. } => Ok(self.give_on()),
             Entry::Deliver { wait } => Ok(self.deliver(wait)),
+            Entry::Spoil { wait, .. } => self.spoil(wait),
+            Entry::Undo { pass, wait } => Ok(self.undo(pass, wait)),
             Entry::Leave { pass, wait } => Ok(self.leave(pass, wait)),
             Entry::LookPending { pass, wait } => Ok(self.look_in_vain(pass, wait)),
             Entry::LookGranted { pass, wait } | Entry::Late { pass, wait } => {

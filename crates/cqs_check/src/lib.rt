@@ -1,6 +1,7 @@
 //! Histories of a fair semaphore: read from texts, and judged.
 #![tactic(auto)]
 
+mod broken;
 mod counts;
 mod door;
 mod histories;

@@ -5,7 +5,7 @@ ghost use mathlib.Core.Logic.{◌↔◌};
 ghost use Rattle.cqs_check.specs.declared.waits.WaitState.TheVariants as became;
 ghost use Rattle.cqs_core.specs.QueueWaiters.{Waits};
 ghost use Rattle.cqs_check.specs.Trees.{IsTree, size_of};
-ghost use Rattle.cqs_check.specs.Lines.{HasRoom, IsTable, line_of, Becomes, Enters, flag};
+ghost use Rattle.cqs_check.specs.Lines.{HasRoom, IsTable, line_of, Becomes, Enters, PassesOver, flag};
 
 use crate::counts::Counts;
 use std::alloc::{AllocError, Global};
@@ -19,8 +19,8 @@ pub enum WaitState {
     Served(u32),
     /// It was served, and what came was looked at.
     Closed(u32),
-    /// It left.
-    Left,
+    /// It left, or its number was broken.
+    Gone,
 }
 
 /// The waits by number, with a tree that counts those in the line.
@@ -55,7 +55,7 @@ impl Table {
             }
             Some(WaitState::Served(_)) => None,
             Some(WaitState::Closed(_)) => None,
-            Some(WaitState::Left) => None,
+            Some(WaitState::Gone) => None,
             None => None,
         }
     }
@@ -110,6 +110,17 @@ impl Table {
         let number = self.waits.len();
         self.counts.raise(number);
         self.waits.push_reserved(WaitState::Waiting(caller));
+    }
+
+    /// The next number was broken before it was drawn: nobody stands in the line under it.
+    pub fn pass_over(&mut self)
+        requires table { IsTable self.old }
+        requires low { vec_len self.old.waits < size_of self.old.counts }
+        requires few { vec_len self.old.waits + 1 < 2 ^ 32 }
+        requires spare { vec_len self.old.waits < vec_capacity self.old.waits }
+        ensures { PassesOver self.old self.new }
+    {
+        self.waits.push_reserved(WaitState::Gone);
     }
 
     /// A wait of the line stands there no longer.

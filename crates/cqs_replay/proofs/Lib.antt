@@ -1,2 +1,3 @@
 mod Permits
+pub mod HeadLines
 pub mod Unique

@@ -1,5 +1,5 @@
 -- No event changes with how many permits the core was made.
-use Rattle.std.proofs.Common.{◌≡◌, ℕ, ◌+◌, nat_lt, pos, int_lt, int_le, Bool, true, false, List, [], ◌∷◌, Option, Some, None, refl, ◌∙◌, subst, slice_get, slice_index, if◌then◌else◌}
+use Rattle.std.proofs.Common.{◌≡◌, ℕ, nat_lt, pos, int_lt, int_le, Bool, true, false, List, [], ◌∷◌, Option, Some, None, refl, ◌∙◌, subst, slice_get, slice_index, if◌then◌else◌}
 use Rattle.std.specs.Ordering.{int_eq}
 use Rattle.std.specs.Option.{option_and_then, option_map_or}
 use Rattle.cqs_core.specs.declared.cells.CoreCell.{CoreCell}
@@ -12,8 +12,9 @@ use Rattle.cqs_core.specs.declared.events.Event.TheVariants as event
 use Rattle.cqs_core.specs.declared.entries.Entry.TheVariants as entry
 use Rattle.cqs_core.specs.declared.outcomes.Outcome.TheVariants as outcome
 use Rattle.cqs_core.specs.QueueMoves as move
+use Rattle.cqs_core.specs.QueueMoves.{at_state}
 use Rattle.cqs_core.specs.SemaphoreEntries.{IsLegal}
-use Rattle.cqs_core.specs.SemaphoreTable.{Shape, Stepped, gains, loses, adds, takes, records, moves, answers, lowest, last_number, is_with, step, take_row, try_load_row, try_swap_row, draw_row, install_at, install_row, give_row, reach_row, meet_at, meet_row, leave_at, leave_with, leave_row, decide_row, settle_at, settle_row, look_at, look_with, look_row}
+use Rattle.cqs_core.specs.SemaphoreTable.{Shape, Stepped, gains, loses, adds, takes, records, moves, writes, answers, lowest, last_number, is_with, step, take_row, try_load_row, try_swap_row, draw_row, install_at, install_row, give_row, reach_row, meet_at, meet_row, see_at, see_row, break_at, break_row, leave_at, leave_with, leave_row, decide_row, settle_at, settle_row, look_at, look_with, look_row}
 use Rattle.cqs_replay.specs.declared.schedules.Schedule.{Schedule}
 use Rattle.cqs_replay.specs.Runs.{after_events, after_run, opened}
 
@@ -48,6 +49,7 @@ take-row-kept s p (Some (doing.Drawn n)) = tt
 take-row-kept s p (Some doing.Owes) = tt
 take-row-kept s p (Some (doing.Ticket n)) = tt
 take-row-kept s p (Some (doing.Leaving n)) = tt
+take-row-kept s p (Some (doing.Watching n)) = tt
 take-row-kept s p (Some (doing.Decided n on)) = tt
 take-row-kept s p None = tt
 
@@ -62,6 +64,7 @@ try-load-row-kept s p (Some (doing.Drawn n)) = tt
 try-load-row-kept s p (Some doing.Owes) = tt
 try-load-row-kept s p (Some (doing.Ticket n)) = tt
 try-load-row-kept s p (Some (doing.Leaving n)) = tt
+try-load-row-kept s p (Some (doing.Watching n)) = tt
 try-load-row-kept s p (Some (doing.Decided n on)) = tt
 try-load-row-kept s p None = tt
 
@@ -76,6 +79,7 @@ try-swap-row-kept s p (Some (doing.Drawn n)) = tt
 try-swap-row-kept s p (Some doing.Owes) = tt
 try-swap-row-kept s p (Some (doing.Ticket n)) = tt
 try-swap-row-kept s p (Some (doing.Leaving n)) = tt
+try-swap-row-kept s p (Some (doing.Watching n)) = tt
 try-swap-row-kept s p (Some (doing.Decided n on)) = tt
 try-swap-row-kept s p None = tt
 
@@ -90,6 +94,7 @@ draw-row-kept s p (Some (doing.Drawn n)) = tt
 draw-row-kept s p (Some doing.Owes) = tt
 draw-row-kept s p (Some (doing.Ticket n)) = tt
 draw-row-kept s p (Some (doing.Leaving n)) = tt
+draw-row-kept s p (Some (doing.Watching n)) = tt
 draw-row-kept s p (Some (doing.Decided n on)) = tt
 draw-row-kept s p None = tt
 
@@ -99,7 +104,7 @@ install-at-kept s p k cell state.Empty = refl
 install-at-kept s p k cell state.Value = refl
 install-at-kept s p k cell state.Waiter = tt
 install-at-kept s p k cell state.Taken = tt
-install-at-kept s p k cell state.Broken = tt
+install-at-kept s p k cell state.Broken = refl
 install-at-kept s p k cell state.Resumed = tt
 install-at-kept s p k cell state.Cancelling = tt
 install-at-kept s p k cell state.Delegated = tt
@@ -116,6 +121,7 @@ install-row-kept s p (Some doing.Door) = tt
 install-row-kept s p (Some doing.Owes) = tt
 install-row-kept s p (Some (doing.Ticket n)) = tt
 install-row-kept s p (Some (doing.Leaving n)) = tt
+install-row-kept s p (Some (doing.Watching n)) = tt
 install-row-kept s p (Some (doing.Decided n on)) = tt
 install-row-kept s p None = tt
 
@@ -136,6 +142,7 @@ give-row-kept s p (Some (doing.Drawn n)) = tt
 give-row-kept s p (Some doing.Owes) = tt
 give-row-kept s p (Some (doing.Ticket n)) = tt
 give-row-kept s p (Some (doing.Leaving n)) = tt
+give-row-kept s p (Some (doing.Watching n)) = tt
 give-row-kept s p (Some (doing.Decided n on)) = tt
 give-row-kept s p None = tt
 
@@ -149,14 +156,18 @@ reach-row-kept s p (Some doing.Door) = tt
 reach-row-kept s p (Some (doing.Drawn n)) = tt
 reach-row-kept s p (Some (doing.Ticket n)) = tt
 reach-row-kept s p (Some (doing.Leaving n)) = tt
+reach-row-kept s p (Some (doing.Watching n)) = tt
 reach-row-kept s p (Some (doing.Decided n on)) = tt
 reach-row-kept s p None = tt
 
 meet-at-kept : (s : Shape) (p : ℕ) (k : ℕ) (cell : CoreCell) (x : CoreState)
     → Keeps s (meet_at s p k cell x)
 meet-at-kept s p k cell state.Waiter = refl
-meet-at-kept s p k cell state.Empty = refl
-meet-at-kept s p k cell state.Cancelling = refl
+meet-at-kept s p k cell state.Empty = if-kept s s.sync
+    (answers (writes s p k (at_state cell state.Value) (doing.Watching k)) (outcome.Left k))
+    (answers (moves s (move.leave_value p k cell)) (outcome.Left k)) refl refl
+meet-at-kept s p k cell state.Cancelling = if-kept s s.sync (answers s (outcome.Handling k))
+    (answers (moves s (move.delegate p k cell)) (outcome.Left k)) refl refl
 meet-at-kept s p k cell state.Cancelled = refl
 meet-at-kept s p k cell state.Refused = refl
 meet-at-kept s p k cell state.Value = tt
@@ -174,8 +185,60 @@ meet-row-kept s p (Some doing.Door) = tt
 meet-row-kept s p (Some (doing.Drawn n)) = tt
 meet-row-kept s p (Some doing.Owes) = tt
 meet-row-kept s p (Some (doing.Leaving n)) = tt
+meet-row-kept s p (Some (doing.Watching n)) = tt
 meet-row-kept s p (Some (doing.Decided n on)) = tt
 meet-row-kept s p None = tt
+
+see-at-kept : (s : Shape) (p : ℕ) (k : ℕ) (x : CoreState) → Keeps s (see_at s p k x)
+see-at-kept s p k state.Value = refl
+see-at-kept s p k state.Taken = refl
+see-at-kept s p k state.Empty = tt
+see-at-kept s p k state.Waiter = tt
+see-at-kept s p k state.Broken = tt
+see-at-kept s p k state.Resumed = tt
+see-at-kept s p k state.Cancelling = tt
+see-at-kept s p k state.Delegated = tt
+see-at-kept s p k state.Cancelled = tt
+see-at-kept s p k state.Refused = tt
+
+see-row-kept : (s : Shape) (p : ℕ) (d : Option Doing) → Keeps s (see_row s p d)
+see-row-kept s p (Some (doing.Watching k)) = and-kept s (λ cell. see_at s p k cell.state)
+    (slice_get s.queue.cells k) (λ cell. see-at-kept s p k cell.state)
+see-row-kept s p (Some doing.Idle) = tt
+see-row-kept s p (Some (doing.TryAt v)) = tt
+see-row-kept s p (Some doing.Door) = tt
+see-row-kept s p (Some (doing.Drawn n)) = tt
+see-row-kept s p (Some doing.Owes) = tt
+see-row-kept s p (Some (doing.Ticket n)) = tt
+see-row-kept s p (Some (doing.Leaving n)) = tt
+see-row-kept s p (Some (doing.Decided n on)) = tt
+see-row-kept s p None = tt
+
+break-at-kept : (s : Shape) (p : ℕ) (k : ℕ) (cell : CoreCell) (x : CoreState)
+    → Keeps s (break_at s p k cell x)
+break-at-kept s p k cell state.Value = refl
+break-at-kept s p k cell state.Taken = refl
+break-at-kept s p k cell state.Empty = tt
+break-at-kept s p k cell state.Waiter = tt
+break-at-kept s p k cell state.Broken = tt
+break-at-kept s p k cell state.Resumed = tt
+break-at-kept s p k cell state.Cancelling = tt
+break-at-kept s p k cell state.Delegated = tt
+break-at-kept s p k cell state.Cancelled = tt
+break-at-kept s p k cell state.Refused = tt
+
+break-row-kept : (s : Shape) (p : ℕ) (d : Option Doing) → Keeps s (break_row s p d)
+break-row-kept s p (Some (doing.Watching k)) = and-kept s (λ cell. break_at s p k cell cell.state)
+    (slice_get s.queue.cells k) (λ cell. break-at-kept s p k cell cell.state)
+break-row-kept s p (Some doing.Idle) = tt
+break-row-kept s p (Some (doing.TryAt v)) = tt
+break-row-kept s p (Some doing.Door) = tt
+break-row-kept s p (Some (doing.Drawn n)) = tt
+break-row-kept s p (Some doing.Owes) = tt
+break-row-kept s p (Some (doing.Ticket n)) = tt
+break-row-kept s p (Some (doing.Leaving n)) = tt
+break-row-kept s p (Some (doing.Decided n on)) = tt
+break-row-kept s p None = tt
 
 leave-at-kept : (s : Shape) (p : ℕ) (k : ℕ) (cell : CoreCell) (x : CoreState)
     → Keeps s (leave_at s p k cell x)
@@ -203,6 +266,7 @@ leave-row-kept s p k (Some (doing.Drawn n)) = tt
 leave-row-kept s p k (Some doing.Owes) = tt
 leave-row-kept s p k (Some (doing.Ticket n)) = tt
 leave-row-kept s p k (Some (doing.Leaving n)) = tt
+leave-row-kept s p k (Some (doing.Watching n)) = tt
 leave-row-kept s p k (Some (doing.Decided n on)) = tt
 leave-row-kept s p k None = tt
 
@@ -217,6 +281,7 @@ decide-row-kept s p (Some doing.Door) = tt
 decide-row-kept s p (Some (doing.Drawn n)) = tt
 decide-row-kept s p (Some doing.Owes) = tt
 decide-row-kept s p (Some (doing.Ticket n)) = tt
+decide-row-kept s p (Some (doing.Watching n)) = tt
 decide-row-kept s p (Some (doing.Decided n on)) = tt
 decide-row-kept s p None = tt
 
@@ -246,6 +311,7 @@ settle-row-kept s p (Some (doing.Drawn n)) = tt
 settle-row-kept s p (Some doing.Owes) = tt
 settle-row-kept s p (Some (doing.Ticket n)) = tt
 settle-row-kept s p (Some (doing.Leaving n)) = tt
+settle-row-kept s p (Some (doing.Watching n)) = tt
 settle-row-kept s p None = tt
 
 look-at-kept : (s : Shape) (p : ℕ) (k : ℕ) (cell : CoreCell) (x : CoreState)
@@ -274,6 +340,7 @@ look-row-kept s p k (Some (doing.Drawn n)) = tt
 look-row-kept s p k (Some doing.Owes) = tt
 look-row-kept s p k (Some (doing.Ticket n)) = tt
 look-row-kept s p k (Some (doing.Leaving n)) = tt
+look-row-kept s p k (Some (doing.Watching n)) = tt
 look-row-kept s p k (Some (doing.Decided n on)) = tt
 look-row-kept s p k None = tt
 
@@ -286,6 +353,8 @@ step-kept s (event.Install p) = install-row-kept s p (slice_get s.queue.doing p)
 step-kept s (event.Give p) = give-row-kept s p (slice_get s.queue.doing p)
 step-kept s (event.Reach p) = reach-row-kept s p (slice_get s.queue.doing p)
 step-kept s (event.Meet p) = meet-row-kept s p (slice_get s.queue.doing p)
+step-kept s (event.See p) = see-row-kept s p (slice_get s.queue.doing p)
+step-kept s (event.Break p) = break-row-kept s p (slice_get s.queue.doing p)
 step-kept s (event.Leave p k) = leave-row-kept s p k (slice_get s.queue.doing p)
 step-kept s (event.Decide p) = decide-row-kept s p (slice_get s.queue.doing p)
 step-kept s (event.Settle p) = settle-row-kept s p (slice_get s.queue.doing p)

@@ -1,5 +1,5 @@
 -- What an entry says is a line.
-use Rattle.std.specs.Prelude.{◌≡◌, ℕ, ◌<◌, ◌^◌, codes, refl, List, [], ◌∷◌}
+use Rattle.std.specs.Prelude.{codes, refl}
 use Rattle.cqs_core.specs.declared.entries.Entry.{Entry}
 use Rattle.cqs_core.specs.declared.entries.Entry.TheVariants as entry
 use Rattle.cqs_lines.specs.Said.{IsLine}
@@ -15,6 +15,8 @@ entry_is_line (entry.TryBusy p) fit = line-one (codes "trybusy") p refl refl fit
 entry_is_line (entry.GiveFreed p) fit = line-one (codes "givefreed") p refl refl fit
 entry_is_line (entry.GiveSent p) fit = line-one (codes "givesent") p refl refl fit
 entry_is_line (entry.Deliver k) fit = line-wait (codes "deliver") k refl refl fit
+entry_is_line (entry.Spoil p k) fit = line-two (codes "spoil") p k refl refl fit.0 fit.1
+entry_is_line (entry.Undo p k) fit = line-two (codes "undo") p k refl refl fit.0 fit.1
 entry_is_line (entry.Leave p k) fit = line-two (codes "leave") p k refl refl fit.0 fit.1
 entry_is_line (entry.Late p k) fit = line-two (codes "late") p k refl refl fit.0 fit.1
 entry_is_line (entry.LookGranted p k) fit = line-two (codes "granted") p k refl refl fit.0 fit.1

@@ -1,5 +1,5 @@
 -- What the line of an entry says.
-use Rattle.std.specs.Prelude.{◌≡◌, ◌≢◌, ℕ, ◌<◌, ◌^◌, List, [], ◌∷◌, Option, Some, None, codes}
+use Rattle.std.specs.Prelude.{◌≡◌, ◌≢◌, ℕ, List, [], ◌∷◌, Option, Some, None, codes}
 use Rattle.cqs_core.specs.declared.entries.Entry.{Entry}
 use Rattle.cqs_core.specs.declared.entries.Entry.TheVariants as entry
 use Rattle.cqs_lines.specs.Said.{Said, said}
@@ -14,6 +14,8 @@ entry_says (entry.TryBusy p) = said (codes "trybusy") (p ∷ [])
 entry_says (entry.GiveFreed p) = said (codes "givefreed") (p ∷ [])
 entry_says (entry.GiveSent p) = said (codes "givesent") (p ∷ [])
 entry_says (entry.Deliver k) = said (codes "deliver") (k ∷ [])
+entry_says (entry.Spoil p k) = said (codes "spoil") (p ∷ k ∷ [])
+entry_says (entry.Undo p k) = said (codes "undo") (p ∷ k ∷ [])
 entry_says (entry.Leave p k) = said (codes "leave") (p ∷ k ∷ [])
 entry_says (entry.Late p k) = said (codes "late") (p ∷ k ∷ [])
 entry_says (entry.LookGranted p k) = said (codes "granted") (p ∷ k ∷ [])
@@ -29,6 +31,8 @@ IsEntry (entry.TryBusy p) = IsPass p
 IsEntry (entry.GiveFreed p) = IsPass p
 IsEntry (entry.GiveSent p) = IsPass p
 IsEntry (entry.Deliver k) = IsWait k
+IsEntry (entry.Spoil p k) = IsPass p × IsWait k
+IsEntry (entry.Undo p k) = IsPass p × IsWait k
 IsEntry (entry.Leave p k) = IsPass p × IsWait k
 IsEntry (entry.Late p k) = IsPass p × IsWait k
 IsEntry (entry.LookGranted p k) = IsPass p × IsWait k

@@ -4,5 +4,4 @@ pub mod EntryLines
 pub mod EntryLaws
 pub mod OutcomeLines
 pub mod Schedules
-pub mod HeadLaws
 pub mod Runs

@@ -5,7 +5,7 @@ use Rattle.std.specs.Fmt.{signed_decimal}
 use Rattle.cqs_core.specs.declared.events.Event.{Event}
 use Rattle.cqs_core.specs.declared.outcomes.Outcome.{Outcome}
 use Rattle.cqs_core.specs.SemaphoreTable.{Shape, Stepped, step}
-use Rattle.cqs_core.specs.SemaphoreShown.{opening_shape}
+use Rattle.cqs_core.specs.SemaphoreCores.{opening_of}
 use Rattle.cqs_lines.specs.Said.{Said, said, said_text, line_text}
 use Rattle.cqs_lines.specs.Forms.{lines_text}
 use Rattle.cqs_replay.specs.declared.schedules.Schedule.{Schedule}
@@ -45,7 +45,7 @@ state_line s =
     ++ codes " resumes " ++ decimal s.queue.resumes ++ codes "\n"
 
 abbrev pub opened : Schedule → Shape
-opened s = opening_shape s.permits s.passes
+opened s = opening_of s.sync s.permits s.passes
 
 -- the core after the schedule's run
 abbrev pub after_run : Schedule → Shape

@@ -77,6 +77,10 @@ fn of_wait(verb: &[u8], pass: u32, wait: u64) -> Option<Entry>
 {
     if is(verb, "enter") {
         Some(Entry::Enter { pass, wait })
+    } else if is(verb, "spoil") {
+        Some(Entry::Spoil { pass, wait })
+    } else if is(verb, "undo") {
+        Some(Entry::Undo { pass, wait })
     } else if is(verb, "leave") {
         Some(Entry::Leave { pass, wait })
     } else if is(verb, "late") {
@@ -125,6 +129,8 @@ fn write_entry(text: &mut Vec<u8>, entry: Entry) -> Result<(), AllocError>
         Entry::GiveFreed { pass } => write_said(text, b"givefreed", &[u64::from(pass)]),
         Entry::GiveSent { pass } => write_said(text, b"givesent", &[u64::from(pass)]),
         Entry::Deliver { wait } => write_said(text, b"deliver", &[wait]),
+        Entry::Spoil { pass, wait } => write_said(text, b"spoil", &[u64::from(pass), wait]),
+        Entry::Undo { pass, wait } => write_said(text, b"undo", &[u64::from(pass), wait]),
         Entry::Leave { pass, wait } => write_said(text, b"leave", &[u64::from(pass), wait]),
         Entry::Late { pass, wait } => write_said(text, b"late", &[u64::from(pass), wait]),
         Entry::LookGranted { pass, wait } => write_said(text, b"granted", &[u64::from(pass), wait]),

@@ -50,6 +50,10 @@ fn of_pass(verb: &[u8], pass: u32) -> Option<Event>
         Some(Event::Reach { pass })
     } else if is(verb, "meet") {
         Some(Event::Meet { pass })
+    } else if is(verb, "see") {
+        Some(Event::See { pass })
+    } else if is(verb, "break") {
+        Some(Event::Break { pass })
     } else if is(verb, "decide") {
         Some(Event::Decide { pass })
     } else if is(verb, "settle") {
@@ -108,6 +112,8 @@ pub fn write_event(text: &mut Vec<u8>, event: Event) -> Result<(), AllocError>
         Event::Give { pass } => write_said(text, b"give", &[u64::from(pass)]),
         Event::Reach { pass } => write_said(text, b"reach", &[u64::from(pass)]),
         Event::Meet { pass } => write_said(text, b"meet", &[u64::from(pass)]),
+        Event::See { pass } => write_said(text, b"see", &[u64::from(pass)]),
+        Event::Break { pass } => write_said(text, b"break", &[u64::from(pass)]),
         Event::Leave { pass, wait } => write_said(text, b"leave", &[u64::from(pass), wait]),
         Event::Decide { pass } => write_said(text, b"decide", &[u64::from(pass)]),
         Event::Settle { pass } => write_said(text, b"settle", &[u64::from(pass)]),

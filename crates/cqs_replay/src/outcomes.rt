@@ -30,6 +30,8 @@ fn name_of(outcome: Outcome) -> &'static str
         Outcome::Left(_) => "left",
         Outcome::Passed(_) => "passed",
         Outcome::Void(_) => "void",
+        Outcome::Broke(_) => "broke",
+        Outcome::Handling(_) => "handling",
         Outcome::Cancelling(_) => "cancelling",
         Outcome::TooLate(_) => "toolate",
         Outcome::Decided(_) => "decided",
@@ -72,6 +74,8 @@ fn write_numbers(text: &mut Vec<u8>, outcome: Outcome) -> Result<(), AllocError>
         | Outcome::Left(number)
         | Outcome::Passed(number)
         | Outcome::Void(number)
+        | Outcome::Broke(number)
+        | Outcome::Handling(number)
         | Outcome::Cancelling(number)
         | Outcome::TooLate(number)
         | Outcome::Cancelled(number)

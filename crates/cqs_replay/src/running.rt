@@ -13,7 +13,12 @@ use std::alloc::Global;
 pub fn open(alloc: Global, schedule: &Schedule) -> Result<Core, Memory>
     ensures { IfOk result (λ core. core.shape ≡ opened schedule.now) }
 {
-    match Core::new(alloc, schedule.permits, schedule.passes) {
+    let made = if schedule.sync {
+        Core::new_sync(alloc, schedule.permits, schedule.passes)
+    } else {
+        Core::new(alloc, schedule.permits, schedule.passes)
+    };
+    match made {
         Ok(core) => Ok(core),
         Err(_) => Err(Memory),
     }

@@ -6,9 +6,9 @@ ghost use Rattle.cqs_replay.specs.declared.schedules.Schedule.{Schedule};
 ghost use Rattle.cqs_replay.specs.declared.schedules.ScheduleError.TheVariants.{BadLine};
 
 use crate::events::{EventForm, write_events};
-use crate::heads::HeadForm;
+use crate::heads::{next_head, write_kind};
 use cqs_core::{Event, Memory};
-use cqs_lines::{LineError, read_headed, write_said};
+use cqs_lines::{LineError, read_items, write_said};
 use std::alloc::Global;
 
 /// A core, and the events that are to be made on it.
@@ -16,6 +16,7 @@ use std::alloc::Global;
 pub struct Schedule {
     pub permits: u32,
     pub passes: u32,
+    pub sync: bool,
     pub events: Vec<Event>,
 }
 
@@ -37,10 +38,16 @@ pub fn read_schedule(alloc: Global, bytes: &[u8]) -> Result<Schedule, ScheduleEr
     // What was written is read again.
     ensures again { (s : Schedule) → IsSchedule s → bytes.now ≡ schedule_text s → IsRead result s }
 {
-    match read_headed(alloc, &HeadForm, &EventForm, bytes) {
-        Ok((head, events)) => Ok(Schedule {
+    let (head, rest) = match next_head(alloc, bytes) {
+        Ok(Some(next)) => next,
+        Ok(None) => return Err(ScheduleError::BadLine(1)),
+        Err(_) => return Err(ScheduleError::Memory),
+    };
+    match read_items(alloc, &EventForm, rest, 2) {
+        Ok(events) => Ok(Schedule {
             permits: head.permits,
             passes: head.passes,
+            sync: head.sync,
             events,
         }),
         Err(LineError::Memory) => Err(ScheduleError::Memory),
@@ -55,6 +62,7 @@ pub fn write_schedule(alloc: Global, schedule: &Schedule) -> Result<Vec<u8>, Mem
     let mut text = Vec::new(alloc);
     let numbers = [u64::from(schedule.permits), u64::from(schedule.passes)];
     write_said(&mut text, b"core", &numbers)?;
+    write_kind(&mut text, schedule.sync)?;
     text.extend_from_slice(b"\n")?;
     write_events(&mut text, schedule.events.as_slice())?;
     Ok(text)

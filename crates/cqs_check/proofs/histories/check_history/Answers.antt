@@ -1,4 +1,4 @@
-use Rattle.std.proofs.Common.{rules, arith, ◌≡◌, ◌+◌, true, ap}
+use Rattle.std.proofs.Common.{rules, ◌≡◌, ◌+◌, true, ap}
 use Rattle.cqs_check.proofs.Checking.{at-next}
 use Rattle.cqs_check.proofs.histories.check_history.Goals as goal
 

@@ -1,4 +1,3 @@
-use Rattle.std.proofs.Common.{rules, ◌≡◌}
 use Rattle.cqs_lines.proofs.HeadedTexts.{headed-many}
 use Rattle.cqs_replay.specs.EntryLines.{entry_says, IsEntry}
 use Rattle.cqs_replay.specs.Runs.{permits_say}

@@ -1,5 +1,5 @@
-use Rattle.std.proofs.Common.{rules, arith, ◌≡◌, ◌<◌, ◌≤◌, ◌+◌}
-use Rattle.cqs_check.proofs.Going.{going-next, next-fits, going-ends}
+use Rattle.std.proofs.Common.{arith}
+use Rattle.cqs_check.proofs.Going.{going-next, next-fits}
 use Rattle.cqs_check.proofs.counts.Counts.before.Goals as goal
 
 pub overflow_add-total : goal.overflow_add-total

@@ -1,4 +1,4 @@
-use Rattle.std.proofs.Common.{rules, arith}
+use Rattle.std.proofs.Common.{arith}
 use Rattle.cqs_check.proofs.Times.{door-few}
 use Rattle.cqs_check.proofs.door.Door.come.Goals as goal
 

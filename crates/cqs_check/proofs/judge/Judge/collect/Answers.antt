@@ -1,4 +1,4 @@
-use Rattle.std.proofs.Common.{rules, arith, ◌≡◌, ◌≢◌, slice_get, Some, refl}
+use Rattle.std.proofs.Common.{rules, ◌≡◌, ◌≢◌, slice_get, Some, refl}
 use Rattle.cqs_check.specs.declared.waits.WaitState.TheVariants as wait
 use Rattle.cqs_check.proofs.Collects.{granted-judged, granted-refused, late-judged, late-refused}
 use Rattle.cqs_check.proofs.judge.Judge.collect.Goals as goal
@@ -20,10 +20,11 @@ returns-clause-granted c =
     let there : slice_get c.args.self.now.table.waits.items c.args.wait
     ≡ Some (wait.Served c.args.caller) = search rules in
     granted-judged c.args.self.now _ c.args.wait c.args.caller c.requires there c.change.ensures refl refl refl refl
-    refl
+    refl refl
 
 pub returns-clause-late : goal.returns-clause-late
 returns-clause-late c =
     let there : slice_get c.args.self.now.table.waits.items c.args.wait
     ≡ Some (wait.Served c.args.caller) = search rules in
-    late-judged c.args.self.now _ c.args.wait c.args.caller c.requires there c.change.ensures refl refl refl refl refl
+    late-judged c.args.self.now _ c.args.wait c.args.caller c.requires there c.change.ensures refl refl refl refl
+    refl refl

@@ -1,4 +1,4 @@
-use Rattle.std.proofs.Common.{rules, arith, ◌≡◌, ◌≢◌, slice_get, Some, refl}
+use Rattle.std.proofs.Common.{rules, ◌≡◌, ◌≢◌, slice_get, Some}
 use Rattle.cqs_check.specs.declared.waits.WaitState.TheVariants as wait
 use Rattle.cqs_check.proofs.Collects.{vain-judged, vain-refused}
 use Rattle.cqs_check.proofs.judge.Judge.look_in_vain.Goals as goal

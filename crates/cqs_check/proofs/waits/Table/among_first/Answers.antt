@@ -1,4 +1,4 @@
-use Rattle.std.proofs.Common.{rules, arith, ◌≡◌, ◌≢◌, ◌<◌, ◌≤◌, ℕ, Some, None, slice_get, sym, ◌∙◌}
+use Rattle.std.proofs.Common.{rules, arith, ◌≡◌, Some, slice_get}
 use Rattle.cqs_check.specs.declared.waits.WaitState.TheVariants as wait
 use Rattle.cqs_check.proofs.Tabled.{stands-in, stands-not, absent-not}
 use Rattle.cqs_check.proofs.waits.Table.among_first.Goals as goal
@@ -25,9 +25,9 @@ pub returns-in-Some-Closed : goal.returns-in-Some-Closed
 returns-in-Some-Closed c = λ d. absent-not c.args.self.now c.args.way c.args.wait d
     (λ e same. absurd (cc (same, c.state.ensures, c.in-Some-Closed.is, c.in-Some-Closed.field-0-is)))
 
-pub returns-in-Some-Left : goal.returns-in-Some-Left
-returns-in-Some-Left c = λ d. absent-not c.args.self.now c.args.way c.args.wait d
-    (λ e same. absurd (cc (same, c.state.ensures, c.in-Some-Left.is, c.in-Some-Left.field-0-is)))
+pub returns-in-Some-Gone : goal.returns-in-Some-Gone
+returns-in-Some-Gone c = λ d. absent-not c.args.self.now c.args.way c.args.wait d
+    (λ e same. absurd (cc (same, c.state.ensures, c.in-Some-Gone.is, c.in-Some-Gone.field-0-is)))
 
 pub returns-in-None : goal.returns-in-None
 returns-in-None c = λ d. absent-not c.args.self.now c.args.way c.args.wait d

@@ -11,9 +11,11 @@
 #![tactic(auto)]
 
 mod found;
+mod links;
 mod passed;
 mod placed;
 
 pub use found::{Found, find};
+pub use links::{next_of, pass_by};
 pub use passed::place_after;
 pub use placed::locate;

@@ -3,6 +3,7 @@ use Rattle.std.proofs.Common.{◌≡◌, ◌≢◌, ℕ, ◌/◌, ◌<◌, ◌�
 use Rattle.cqs_core.specs.declared.cells.CoreState.{CoreState}
 use Rattle.cqs_core.specs.declared.cells.CoreState.TheVariants as state
 use Rattle.cqs_core.specs.QueueSteps.{QueueStep, row_of, StepRow, at_counter, at_cell}
+use Rattle.cqs_slots.specs.Layout.{slot_words}
 use Rattle.cqs_slots.specs.Slots.{IsHome}
 use Rattle.cqs_slots.proofs.Lists.{has_prefix, home-prefix}
 use Rattle.cqs_slots.proofs.Loads.{sees-then}
@@ -33,9 +34,8 @@ use Rattle.cqs_rule_laws.specs.SegmentSteps.{LeftBy, retiring_too}
 use Rattle.cqs_rule_laws.specs.Settling.{duties_then}
 use Rattle.cqs_rule_laws.proofs.CellLoads.{word-learned}
 use Rattle.cqs_rule_laws.proofs.CellsStand.{word-number}
-use Rattle.cqs_segment.specs.declared.leaving.Retired.{Retired}
-use Rattle.cqs_segment.specs.Finds.{IsDoneWith}
-use Rattle.cqs_segment.specs.Walks.{but_last, EndsAt}
+use Rattle.cqs_segment.specs.Finds.{HasDone}
+use Rattle.cqs_segment.specs.Walks.{but_last, EndsAt, IsWalker}
 use Rattle.cqs_segment.proofs.Walks.{looked-none}
 use Rattle.cqs_rule.specs.Counting.{Counted, counted_after, LoadedThen}
 use Rattle.cqs_rule.specs.declared.queue.Pass.{Pass}
@@ -74,6 +74,12 @@ module _ {E S : Type 0} where
   low-then v w heads spares duties x left low =
       subst (λ (z : View E S). x < z.slots) (sym left.is) low
 
+  pub all-then : (v w : View E S) (heads : List (ℕ × ℕ)) (spares : List Spare) (duties : List ℕ) (words n : ℕ)
+      → LeftBy heads spares duties v w → IsWalker words v → words ≡ slot_words n → n ≡ w.slots
+  all-then v w heads spares duties words n left walker is =
+      let same = ap (λ (z : View E S). z.slots) left.is in
+      let wide = walker.wide in omega arith
+
   pub home-then : (v w : View E S) (heads : List (ℕ × ℕ)) (spares : List Spare) (duties : List ℕ) (s x : ℕ)
       → LeftBy heads spares duties v w → IsHome v.segments.homes s x → IsHome w.segments.homes s x
   home-then v w heads spares duties s x left home =
@@ -101,19 +107,19 @@ module _ {E S : Type 0} where
   }
 
   -- or was to leave
-  pub counted-last : (v u w : View E S) (x s : ℕ) (answer : Retired) → v.facts.duties ≡ s ∷ []
+  pub counted-last : (v u w : View E S) (s : ℕ) → v.facts.duties ≡ s ∷ []
       → v.facts.to_retire ≡ [] → LeftBy [] v.facts.spare_slots (but_last v.facts.duties) (retiring_too s v) u
-      → Has s u.segments.full → IsDoneWith x s answer u w → Counted v w
-  counted-last v u w x s answer one nobody left full done =
+      → Has s u.segments.full → HasDone s u w → Counted v w
+  counted-last v u w s one nobody left full done =
       let first = subst (λ d. LeftBy [] v.facts.spare_slots d (retiring_too s v) u)
       (last-of-one v.facts.duties s one).1 left in
-      let then = then-retired v u w [] v.facts.spare_slots [] x s answer nobody first done in record {
+      let then = then-retired v u w [] v.facts.spare_slots [] s nobody first done in record {
         heads = then.0;
         few = subst (λ d. length then.0 ≤ length d) (sym one) then.1;
         full = λ q is.
             let same : q ≡ s = ap head_of (sym is ∙ one) in
             inr (subst (λ z. Has z w.segments.full) (sym same)
-            (has_prefix s u.segments.full w.segments.full done.looked.1.segments.full full));
+            (has_prefix s u.segments.full w.segments.full done.left.segments.full full));
         left = then.2;
         none = λ e. let not = sym one ∙ e in absurd (cc);
       }

@@ -11,6 +11,7 @@ IsTicketless doing.Owes = Unit {0}
 IsTicketless (doing.Ticket k) = ⊥
 IsTicketless (doing.TryAt v) = Unit {0}
 IsTicketless (doing.Leaving k) = Unit {0}
+IsTicketless (doing.Watching k) = Unit {0}
 IsTicketless (doing.Decided k on) = Unit {0}
 
 pub no-ticket : (at : Doing) → IsTicketless at → (k : ℕ) → at ≡ doing.Ticket k → ⊥

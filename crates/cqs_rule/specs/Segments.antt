@@ -1,6 +1,9 @@
 -- What the calls on segments leave, by the pass before and after.
 use Rattle.std.specs.Prelude.{◌≡◌, ℕ, ◌+◌, List, [], ◌∷◌, ◌++◌}
+use Rattle.cqs_words.specs.declared.segment.LinkWord.{LinkWord}
 use Rattle.cqs_words.specs.declared.segment.TailWord.{TailWord}
+use Rattle.cqs_words.specs.Segment.{packed_tail}
+use Rattle.cqs_slots.specs.Slots.{IsRaised}
 use Rattle.cqs_rule_laws.specs.declared.client.ClientWords.{Ghosts}
 use Rattle.cqs_rule_laws.specs.declared.view.Spare.{Spare}
 use Rattle.cqs_rule_laws.specs.declared.view.View.{View}
@@ -19,6 +22,15 @@ ExtendsAlone after x (Made tail) v w =
     (tail ≡ record { id = after.id + 1; slot = x })
     × IsMade tail w × Left (but_last v.facts.spare_slots) v.facts.duties v w
 ExtendsAlone after x (Seen tail) v w = ExtendsTo after x (Seen tail) v w
+
+-- the same segment, as a link names it
+abbrev pub as_link : TailWord → LinkWord
+as_link tail = record { id = tail.id; slot = tail.slot }
+
+-- the link of the last segment's slot was raised to the one that was made after it
+abbrev pub IsLinkedTo : {E S : Type 0} → TailWord → Extended → View E S → Type 0
+IsLinkedTo after (Made tail) w = IsRaised after.slot (packed_tail tail) w.segments.links
+IsLinkedTo after (Seen tail) w = Unit {0}
 
 -- The last spare slot is the home of the segment after this one now, and the pass is to retire
 -- none; or the slot stays spare.

@@ -45,6 +45,7 @@ pub mod Courses
 pub mod Causes
 pub mod SegmentSteps
 pub mod Retiring
+pub mod Linking
 pub mod PassedOver
 pub mod Jumps
 pub mod Finals

@@ -260,6 +260,7 @@ module _ {E S : Type 0} (object : Object E) (primitive : Primitive E S) (passes 
         tail = o.at 112 (omega arith);
         live_head = λ x low. at x 0 (omega arith) (omega arith) ∙ live-head x low;
         free_head = λ x high low. at x 0 low (omega arith) ∙ free-head x high;
+        link = λ x low. at x 1 low (omega arith);
         count = λ x low. at x 8 (omega arith) (omega arith);
         cells = λ x j low less.
             ap (slice_index words) (let q : 48 * x + (144 + j) ≡ 48 * x + (128 + (16 + j)) = omega arith in q)

@@ -28,5 +28,6 @@ knows-nothing t = record {
   kept = (t.kept, refl);
   outs = (t.outs, refl);
   full = (t.full, refl);
+  links = (t.links, refl);
   lit = omega arith;
 }

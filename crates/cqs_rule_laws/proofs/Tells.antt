@@ -35,6 +35,7 @@ inside-of passes limit values c p d room sound is = by-doing d (sound.passes.at 
     by-doing : (x : Doing) → IsPass c.queue p x → number_at x < cell_count passes limit values
     by-doing (doing.Drawn k) own = drawn-low k own.drawn
     by-doing (doing.Leaving k) own = drawn-low k own.drawn
+    by-doing (doing.Watching k) own = absurd own
     by-doing (doing.Decided k on) own = drawn-low k own.drawn
     by-doing (doing.Ticket k) own = let r = own.reached in let h = room.resumes in omega arith
     by-doing doing.Idle own = some-cell

@@ -19,6 +19,7 @@ abbrev pub is_owing : Doing → Bool
 is_owing doing.Owes = true
 is_owing (doing.Ticket k) = true
 is_owing (doing.Leaving k) = true
+is_owing (doing.Watching k) = true
 is_owing (doing.Decided k on) = true
 is_owing doing.Idle = false
 is_owing doing.Door = false

@@ -43,8 +43,8 @@ four words =
 abbrev pub first_cell : ℕ → ℕ → ℕ
 first_cell values k = if nat_lt k values then cell_word k 2 k else cell_word k 0 0
 
--- the opening value of each word of a slot: of its head, its number of settled cells and one that
--- is idle, and its cells
+-- the opening value of each word of a slot: of its head, its link, its number of settled cells and
+-- one that is idle, and its cells
 abbrev pub first_in_slot : ℕ → ℕ → ℕ → ℕ → ℕ
 first_in_slot made values slot i =
     if i == 0 then (if nat_lt slot made then head_word slot 2 else 0)

@@ -140,6 +140,7 @@ abbrev pub number_at : Doing → ℕ
 number_at (doing.Drawn k) = k
 number_at (doing.Ticket k) = k
 number_at (doing.Leaving k) = k
+number_at (doing.Watching k) = k
 number_at (doing.Decided k on) = k
 number_at doing.Idle = 0
 number_at doing.Door = 0

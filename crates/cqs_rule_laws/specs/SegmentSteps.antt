@@ -5,9 +5,9 @@ use Rattle.std.specs.Prelude.{◌≡◌, ◌≢◌, ◌⊎◌, ℕ, ◌+◌, ◌
 use Rattle.cqs_core.specs.declared.doings.Doing.TheVariants as doing
 use Rattle.cqs_words.specs.Head.{head_word}
 use Rattle.cqs_words.specs.Segment.{segment_word}
-use Rattle.cqs_slots.specs.Slots.{IsHome}
+use Rattle.cqs_slots.specs.Slots.{IsHome, IsRaised}
 use Rattle.cqs_slots.specs.declared.seen.Seen.{Seen}
-use Rattle.cqs_slots.specs.Told.{TailFound, HeadFound, CountFound, SeesMore}
+use Rattle.cqs_slots.specs.Told.{TailFound, HeadFound, LinkFound, CountFound, SeesMore}
 use Rattle.cqs_rule_laws.specs.declared.config.CancelMode.TheVariants.{Simple}
 use Rattle.cqs_rule_laws.specs.declared.view.Facts.{Facts}
 use Rattle.cqs_rule_laws.specs.declared.view.Spare.{Spare}
@@ -92,6 +92,23 @@ module _ {E S : Type 0} where
     pub found : HeadFound x n v.segments w.segments
     pub stands : OwnStand v w
     pub went : Went v.facts.spare_slots ((x, n) ∷ []) v w
+
+  -- It was looked at by a pass that took a segment out, and looks for those on both sides of it.
+  -- Such a head isn't kept with those that it found.
+  pub record HeadSeen (x : ℕ) (v : View E S) (n : ℕ) (w : View E S) : Type 0 where
+    pub found : HeadFound x n v.segments w.segments
+    pub went : Went v.facts.spare_slots [] v w
+
+  -- the link of the slot x was
+  pub record LinkLoaded (x : ℕ) (v : View E S) (n : ℕ) (w : View E S) : Type 0 where
+    pub found : LinkFound v.slots x n v.segments w.segments
+    pub stands : OwnStand v w
+    pub went : Went v.facts.spare_slots [] v w
+
+  -- it was raised to this word
+  pub record LinkRaised (x word : ℕ) (v w : View E S) : Type 0 where
+    pub raised : IsRaised x word w.segments.links
+    pub went : Went v.facts.spare_slots [] v w
 
   -- a free slot was claimed, where its head still was this
   pub record Claimed (x expected : ℕ) (v : View E S) (n : ℕ) (w : View E S) : Type 0 where

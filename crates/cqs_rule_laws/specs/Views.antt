@@ -62,7 +62,7 @@ WasCrew made live n = (crew_turn n < 2 * made - live) ⊎ (n ≡ crew_word made 
 
 -- nothing is known of the segments
 abbrev pub none_seen : Seen
-none_seen = record { homes = []; kept = []; outs = []; full = []; lit = 0 }
+none_seen = record { homes = []; kept = []; outs = []; full = []; links = []; lit = 0 }
 
 module _ {E S : Type 0} where
   -- the first view, of a table with so many slots, where so many segments are made as it opens

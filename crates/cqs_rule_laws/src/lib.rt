@@ -38,13 +38,13 @@ pub use kinds::{
     Refuses, RefusesValue, Serves, Settles, SettlesOwing, StartsLeaving, Takes,
 };
 pub use layout::{
-    CELLS_WORD, CLIENT_WORD, CREW_WORD, RESUMES_WORD, SLOT_CELLS, SLOT_COUNT, SLOT_STRIDE,
-    SLOTS_WORD, SUSPENDS_WORD, TAIL_WORD,
+    CELLS_WORD, CLIENT_WORD, CREW_WORD, RESUMES_WORD, SLOT_CELLS, SLOT_COUNT, SLOT_LINK,
+    SLOT_STRIDE, SLOTS_WORD, SUSPENDS_WORD, TAIL_WORD,
 };
 pub use loads::{Cancels, Counts, Learned, Load, Meets, Misses, Polls, Watches};
 pub use rule::{Key, Rule};
 pub use silent::Silent;
-pub use steps::{add_at, exchange_at, load_at, or_at, store_at};
+pub use steps::{add_at, exchange_at, load_at, max_at, or_at, store_at};
 pub use table::open_table;
 pub use told::{Telling, Told};
 pub use view::{Drawn, Facts, Glimpse, Has, Opening, Sighting, Spare, View};

@@ -1,7 +1,8 @@
 //! The steps on a word of a client's table, by a seat, of which each keeps the rule: a load, a sum,
-//! bits set, a store, and an exchange. What they tell a pass that is alone is proved here once.
+//! bits set, a rise, a store, and an exchange. What they tell a pass that is alone is proved here
+//! once.
 
-ghost use Rattle.std.specs.Prelude.{◌≡◌, ◌+◌, ◌%◌, ◌^◌, ◌<◌, ◌==◌, bit_or};
+ghost use Rattle.std.specs.Prelude.{◌≡◌, ◌+◌, ◌%◌, ◌^◌, ◌<◌, ◌==◌, bit_or, max};
 ghost use mathlib.Core.Option.{none};
 ghost use prog.Atomic.{either};
 ghost use Rattle.atomic_table.specs.Table.{step};
@@ -74,6 +75,27 @@ pub fn or_at<C: ClientWords, T: Telling<C>>(
     ensures alone { TellsAlone C.primitive seat.new.me.0 }
 {
     words.fetch_or::<Told<C, T>>(seat, word as usize, bits)
+}
+
+/// Raises the word to `least`, where it is less.
+#[inline(always)]
+pub fn max_at<C: ClientWords, T: Telling<C>>(
+    words: &Shared<Option<C::Slot>, View<C::Entry, C::Slot>, Key<C>, Rule<C>>,
+    seat: &mut Seat<Option<C::Slot>, View<C::Entry, C::Slot>>,
+    word: u32,
+    least: u64,
+) -> u64
+    requires table { seat.old.table_id ≡ words.now.table_id }
+    requires inside { word < words.now.table_id.words }
+    requires allowed { IsAllowed C.object C.primitive words.now.key words.now.table_id.slots
+        seat.old.id seat.old.me word (λ n. max n least)
+        (T.told (step words.now.table_id.slots word least 0 none) seat.old.me) }
+    ensures table { seat.new.table_id ≡ seat.old.table_id }
+    ensures told { T.told (step words.now.table_id.slots word least 0 none) seat.old.me result
+        seat.new.me }
+    ensures alone { TellsAlone C.primitive seat.new.me.0 }
+{
+    words.fetch_max::<Told<C, T>>(seat, word as usize, least)
 }
 
 /// Writes `new` to the word, whatever it was.

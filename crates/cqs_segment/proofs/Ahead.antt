@@ -1,9 +1,15 @@
 -- What a search saw of the segment before which all were taken out.
-use Rattle.std.proofs.Common.{◌≡◌, ℕ, List, [], ◌∷◌, ◌++◌, sym, ap, ◌∙◌, append_assoc}
+use Rattle.std.proofs.Common.{◌≡◌, ℕ, Result, Ok, Err, IfErr, List, [], ◌∷◌, ◌++◌, sym, ap, ◌∙◌, append_assoc}
 use Rattle.cqs_words.specs.Head.{head_word}
 use Rattle.cqs_rule_laws.specs.declared.view.View.{View}
 use Rattle.cqs_segment.specs.Finds.{SawLive}
 use Rattle.cqs_segment.specs.Walks.{LookedAt}
+
+-- what holds of an error for two reasons
+pub both-err : {T X : Type 0} (r : Result T X) (P Q R : X → Type 0) → ((y : X) → P y → Q y → R y) → IfErr r P
+    → IfErr r Q → IfErr r R
+both-err (Ok x) P Q R f p q = tt
+both-err (Err y) P Q R f p q = f y p q
 
 module _ {E S : Type 0} where
   -- the heads that a call found

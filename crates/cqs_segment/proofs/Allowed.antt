@@ -1,22 +1,23 @@
 -- Each single step keeps the rule, whatever numbers it is made with.
-use Rattle.std.proofs.Common.{◌≡◌, ℕ, ◌+◌, ◌-◌, ◌*◌, ◌%◌, ◌^◌, ◌<◌, length, eqb, subst, sym, arith, Option}
+use Rattle.std.proofs.Common.{◌≡◌, ℕ, ◌+◌, ◌-◌, ◌*◌, ◌%◌, ◌^◌, ◌<◌, max, length, eqb, subst, sym, arith, Option}
 use mathlib.Core.Option.{none}
 use Rattle.std.specs.Prelude.{slice_index}
 use Rattle.atomic_table.specs.Table.{State, Me, Allows, carried_after, step}
 use prog.Atomic.{either}
 use Rattle.cqs_words.specs.Head.{head_word}
 use Rattle.cqs_words.specs.Segment.{segment_word}
-use Rattle.cqs_slots.specs.Layout.{count_place, empty_word, head_place, slot_cell, tail_place}
+use Rattle.cqs_slots.specs.Layout.{count_place, empty_word, head_place, link_place, slot_cell, tail_place}
 use Rattle.cqs_slots.specs.Slots.{IsHome}
 use Rattle.cqs_rule_laws.specs.declared.view.View.{View}
 use Rattle.cqs_rule_laws.specs.Lists.{Has}
 use Rattle.cqs_rule_laws.specs.Client.{IsClient}
 use Rattle.cqs_rule_laws.specs.Object.{Object, Primitive}
 use Rattle.cqs_rule_laws.specs.Ruled.{Ruled}
-use Rattle.cqs_rule_laws.specs.SegmentSteps.{Began, CellCounted, Claimed, CountLoaded, Extended, HeadLoaded, Lit, Reset, Retired}
+use Rattle.cqs_rule_laws.specs.SegmentSteps.{Began, CellCounted, Claimed, CountLoaded, Extended, HeadLoaded, HeadSeen, LinkLoaded, LinkRaised, Lit, Reset, Retired}
+use Rattle.cqs_rule_laws.proofs.Linking.{loads-link, raises-link, sees-head}
 use Rattle.cqs_rule_laws.proofs.Retiring.{loads-count, retires}
 use Rattle.cqs_rule_laws.proofs.SegmentSteps.{begins, claims, counts, extends, gives-back, lights, loads-head, resets, resets-count}
-use Rattle.cqs_segment.specs.Told.{add_told, back_told, begin_told, claim_told, count_told, extend_told, head_told, light_told, reset_told, retire_told}
+use Rattle.cqs_segment.specs.Told.{add_told, back_told, begin_told, claim_told, count_told, extend_told, head_told, light_told, link_told, raise_told, reset_told, retire_told, see_told}
 use Rattle.cqs_segment.specs.Walks.{but_last, EndsAt, EndsReset}
 use Rattle.cqs_segment.proofs.Endings.{one-duty, one-spare}
 
@@ -58,6 +59,50 @@ module _ {E S : Type 0} (object : Object E) (primitive : Primitive E S) (passes 
           t.1,
         ))
         (loads-head object primitive passes limit client many id me x one low))
+
+    pub see-allowed : (word x : ℕ) → word ≡ head_place x → me.0.weight ≡ 1 → x < me.0.slots
+        → Allows R many id me word (λ n. n) (see_told (step many word 0 0 none) me)
+    see-allowed word x at one low =
+        let T = see_told (step many word 0 0 none) me in
+        at-word word (head_place x) (λ n. n) T at
+        (retold (head_place x) (λ n. n) (λ n me'. HeadSeen x me.0 n me'.0 × (me'.1 ≡ me.1)) T
+        (λ n me' t. (
+          λ y (there : word ≡ head_place y).
+              let e : x ≡ y = omega arith in subst (λ z. HeadSeen z me.0 n me'.0) e t.0,
+          t.1,
+        ))
+        (sees-head object primitive passes limit many id me x one low))
+
+    pub link-allowed : IsClient object primitive → (word x : ℕ) → word ≡ link_place x → me.0.weight ≡ 1 → x < me.0.slots
+        → Allows R many id me word (λ n. n) (link_told (step many word 0 0 none) me)
+    link-allowed client word x at one low =
+        let T = link_told (step many word 0 0 none) me in
+        at-word word (link_place x) (λ n. n) T at
+        (retold (link_place x) (λ n. n) (λ n me'. LinkLoaded x me.0 n me'.0 × (me'.1 ≡ me.1)) T
+        (λ n me' t. (
+          λ y (there : word ≡ link_place y).
+              let e : x ≡ y = omega arith in subst (λ z. LinkLoaded z me.0 n me'.0) e t.0,
+          t.1,
+        ))
+        (loads-link object primitive passes limit client many id me x one low))
+
+    pub raise-allowed : (word least q x m y : ℕ) → word ≡ link_place x → least ≡ segment_word m y → me.0.weight ≡ 1
+        → IsHome me.0.segments.homes q x → IsHome me.0.segments.homes m y
+        → ((p : ℕ) → q < p → p < m → Has p me.0.segments.outs)
+        → Allows R many id me word (λ n. max n least) (raise_told (step many word least 0 none) me)
+    raise-allowed word least q x m y at is one home to passed =
+        let T = raise_told (step many word least 0 none) me in
+        at-word word (link_place x) (λ n. max n least) T at
+        (subst (λ z. Allows R many id me (link_place x) (λ n. max n z) T) (sym is)
+        (retold (link_place x) (λ n. max n (segment_word m y))
+        (λ n me'. LinkRaised x (segment_word m y) me.0 me'.0 × (me'.1 ≡ me.1)) T
+        (λ n me' t. (
+          λ z (there : word ≡ link_place z).
+              let e : x ≡ z = omega arith in
+              subst (λ (p : ℕ × ℕ). LinkRaised p.0 p.1 me.0 me'.0) (λ i. (e i, sym is i)) t.0,
+          t.1,
+        ))
+        (raises-link object primitive passes limit many id me q x m y one home to passed)))
 
     pub count-allowed : (word x : ℕ) → word ≡ count_place x → me.0.weight ≡ 1 → x < me.0.slots
         → Allows R many id me word (λ n. n) (count_told (step many word 0 0 none) me)

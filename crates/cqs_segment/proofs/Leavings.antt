@@ -1,5 +1,6 @@
 -- The ways out of a call that is to take a segment out: the pass isn't to retire it any more.
-use Rattle.std.proofs.Common.{◌≡◌, ◌≢◌, ℕ, ◌<◌, List, [], ◌∷◌, refl, sym, ap, subst, arith}
+use Rattle.std.proofs.Common.{◌≡◌, ◌≢◌, ℕ, ◌<◌, ◌≤◌, List, [], ◌∷◌, length, refl, sym, ap, subst, arith}
+use Rattle.std.proofs.lemmas.List.{append-nil}
 use Rattle.cqs_words.specs.declared.segment.TailWord.{TailWord}
 use Rattle.cqs_words.specs.Head.{head_word}
 use Rattle.cqs_words.specs.Segment.{packed_tail, TailFits}
@@ -9,9 +10,44 @@ use Rattle.cqs_rule_laws.specs.Lists.{Has, without}
 use Rattle.cqs_rule_laws.specs.SegmentSteps.{CountLoaded, LastKept, LeftBy, Retired as RetiredBy, retiring}
 use Rattle.cqs_rule_laws.proofs.Lists.{has_without}
 use Rattle.cqs_segment.specs.declared.leaving.Retired.TheVariants.{Early, Gone, Last, Out}
-use Rattle.cqs_segment.specs.Finds.{IsDoneWith}
+use Rattle.cqs_segment.specs.declared.leaving.Retired.{Retired}
+use Rattle.cqs_segment.specs.Finds.{HasDone, IsDoneWith, Retires}
 use Rattle.cqs_segment.proofs.Extensions.{home-then}
-use Rattle.cqs_segment.proofs.Walks.{retiring-then}
+use Rattle.cqs_segment.proofs.Walks.{looked-then, retiring-then}
+
+module _ {E S : Type 0} where
+  -- one head was found at most
+  few-heads : (x s : ℕ) (answer : Retired) (v w : View E S) → Retires x s answer v w
+      → (heads : List (ℕ × ℕ)) × (length heads ≤ 1) × LeftBy heads v.facts.spare_slots v.facts.duties v w
+  few-heads x s Out v w r = (_, omega arith, r.1)
+  few-heads x s Gone v w r = (_, omega arith, r.1.2)
+  few-heads x s Last v w r = ([], omega arith, r.1)
+  few-heads x s (Early n) v w r = ([], omega arith, r.2)
+
+  -- whatever became of the segment
+  pub has-done : (x s : ℕ) (answer : Retired) (v w : View E S) → IsDoneWith x s answer v w → HasDone s v w
+  has-done x s answer v w d =
+      let found = few-heads x s answer (retiring d.to_retire v) w d.retires in record {
+        to_retire = d.to_retire;
+        done = d.done;
+        fewer = d.fewer;
+        heads = found.0;
+        few = found.1;
+        left = found.2;
+      }
+
+  -- and then the pass found no more heads
+  pub done-then : (s : ℕ) (u v w : View E S) → HasDone s u v → LeftBy [] v.facts.spare_slots v.facts.duties v w
+      → HasDone s u w
+  done-then s u v w d left = record {
+    to_retire = d.to_retire;
+    done = d.done;
+    fewer = d.fewer;
+    heads = d.heads;
+    few = d.few;
+    left = subst (λ l. LeftBy l u.facts.spare_slots u.facts.duties (retiring d.to_retire u) w) (append-nil d.heads)
+        (looked-then (retiring d.to_retire u) v w d.heads [] u.facts.spare_slots u.facts.duties d.left left);
+  }
 
 module _ {E S : Type 0} (u v : View E S) (x s : ℕ) (tail : TailWord) (kept : LastKept u (packed_tail tail) v) where
   -- the last segment is kept

@@ -6,6 +6,7 @@ use Rattle.cqs_slots.specs.Slots.{IsHome}
 use Rattle.cqs_rule_laws.specs.declared.view.View.{View}
 use Rattle.cqs_rule_laws.specs.Lists.{Has}
 use Rattle.cqs_rule_laws.specs.SegmentSteps.{HasDrawn, LeftBy, retiring, retiring_too}
+use Rattle.cqs_segment.specs.Links.{IsClosed}
 use Rattle.cqs_segment.specs.Walks.{but_last, Looked}
 use Rattle.cqs_segment.specs.declared.walk.Found.{Found}
 use Rattle.cqs_segment.specs.declared.walk.Found.TheVariants.{At, Over, Far}
@@ -91,6 +92,25 @@ pub record IsDoneWith {E S : Type 0} (x s : ℕ) (answer : Retired) (v w : View 
   pub fewer : (q : ℕ) → Has q to_retire → Has q v.facts.to_retire
   pub retires : Retires x s answer (retiring to_retire v) w
   pub looked : Looked (retiring to_retire v) w
+
+-- the same where a segment that left by this call was passed by then
+abbrev pub TakesOut : {E S : Type 0} → ℕ → ℕ → Retired → View E S → View E S → Type 0
+TakesOut {E} {S} x s Out v w =
+    (u : View E S) × IsDoneWith x s Out v u
+    × LeftBy [] u.facts.spare_slots u.facts.duties u w × IsClosed s w
+TakesOut x s Gone v w = IsDoneWith x s Gone v w
+TakesOut x s Last v w = IsDoneWith x s Last v w
+TakesOut x s (Early counted) v w = IsDoneWith x s (Early counted) v w
+
+-- Whatever became of the segment, the pass isn't to retire it any more, and no other one that it
+-- wasn't to retire before. It found one head at most, and all else that it has is as it was.
+pub record HasDone {E S : Type 0} (s : ℕ) (v w : View E S) : Type 0 where
+  pub to_retire : List ℕ
+  pub done : Has s to_retire → ⊥
+  pub fewer : (q : ℕ) → Has q to_retire → Has q v.facts.to_retire
+  pub heads : List (ℕ × ℕ)
+  pub few : length heads ≤ 1
+  pub left : LeftBy heads v.facts.spare_slots v.facts.duties (retiring to_retire v) w
 
 -- The pass has one cell less to count, the last. Where all 32 of its segment are counted then, the
 -- pass is to retire the segment.

@@ -1,4 +1,5 @@
 pub mod Walks
+pub mod Links
 pub mod Told
 pub mod Slots
 pub mod Finds

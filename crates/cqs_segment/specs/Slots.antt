@@ -13,6 +13,10 @@ IsTaken n = (id : ℕ) → id < 2 ^ 36 → n ≢ head_word id 0
 abbrev pub IsNotClaimed : ℕ → Type 0
 IsNotClaimed n = (id : ℕ) → id < 2 ^ 36 → n ≢ head_word id 1
 
+-- nor is this one of a live one
+abbrev pub IsNotLive : ℕ → Type 0
+IsNotLive n = (id : ℕ) → id < 2 ^ 36 → n ≢ head_word id 2
+
 -- among these heads is one of the slot x that says so
 abbrev pub FoundTaken : ℕ → List (ℕ × ℕ) → Type 0
 FoundTaken x [] = ⊥

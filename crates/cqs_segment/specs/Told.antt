@@ -3,9 +3,9 @@ use Rattle.std.specs.Prelude.{◌≡◌, ℕ, [], Option}
 use Rattle.atomic_table.specs.Table.{Me, Step}
 use Rattle.cqs_words.specs.Head.{head_word}
 use Rattle.cqs_words.specs.Segment.{segment_word}
-use Rattle.cqs_slots.specs.Layout.{head_place, count_place}
+use Rattle.cqs_slots.specs.Layout.{head_place, link_place, count_place}
 use Rattle.cqs_rule_laws.specs.declared.view.View.{View}
-use Rattle.cqs_rule_laws.specs.SegmentSteps.{Began, CellCounted, Claimed, CountLoaded, Extended, HeadLoaded, LastKept, Lit, Reset, Retired, TailLoaded, Went}
+use Rattle.cqs_rule_laws.specs.SegmentSteps.{Began, CellCounted, Claimed, CountLoaded, Extended, HeadLoaded, HeadSeen, LastKept, LinkLoaded, LinkRaised, Lit, Reset, Retired, TailLoaded, Went}
 use Rattle.cqs_segment.specs.Walks.{but_last, EndsAt, EndsReset}
 
 module _ {E S : Type 0} where
@@ -21,6 +21,21 @@ module _ {E S : Type 0} where
       → Me (Option S) (View E S) → Type 0
   head_told st me n me' =
       ((x : ℕ) → st.word ≡ head_place x → HeadLoaded x me.0 n me'.0) × (me'.1 ≡ me.1)
+
+  abbrev pub see_told : Step (Option S) → Me (Option S) (View E S) → ℕ
+      → Me (Option S) (View E S) → Type 0
+  see_told st me n me' =
+      ((x : ℕ) → st.word ≡ head_place x → HeadSeen x me.0 n me'.0) × (me'.1 ≡ me.1)
+
+  abbrev pub link_told : Step (Option S) → Me (Option S) (View E S) → ℕ
+      → Me (Option S) (View E S) → Type 0
+  link_told st me n me' =
+      ((x : ℕ) → st.word ≡ link_place x → LinkLoaded x me.0 n me'.0) × (me'.1 ≡ me.1)
+
+  abbrev pub raise_told : Step (Option S) → Me (Option S) (View E S) → ℕ
+      → Me (Option S) (View E S) → Type 0
+  raise_told st me n me' =
+      ((x : ℕ) → st.word ≡ link_place x → LinkRaised x st.first me.0 me'.0) × (me'.1 ≡ me.1)
 
   abbrev pub count_told : Step (Option S) → Me (Option S) (View E S) → ℕ
       → Me (Option S) (View E S) → Type 0

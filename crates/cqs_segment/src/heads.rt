@@ -2,7 +2,7 @@
 
 ghost use Rattle.std.specs.Prelude.{◌≡◌, ◌<◌, ◌^◌, IfSome, IfNone};
 ghost use Rattle.cqs_words.specs.Head.{head_word};
-ghost use Rattle.cqs_segment.specs.Slots.{IsNotClaimed, IsTaken};
+ghost use Rattle.cqs_segment.specs.Slots.{IsNotClaimed, IsNotLive, IsTaken};
 
 use cqs_words::{HeadTag, HeadWord};
 
@@ -32,6 +32,22 @@ pub(crate) fn claimed_id(word: u64) -> Option<u64>
             HeadWord {
                 id,
                 tag: HeadTag::Claimed,
+            },
+        ) => Some(id),
+        _ => None,
+    }
+}
+
+// The segment that stands there, if the head is live.
+pub(crate) fn live_id(word: u64) -> Option<u64>
+    ensures live { IfSome result (λ id. (id < 2 ^ 36) × (word ≡ head_word id 2)) }
+    ensures other { IfNone result (IsNotLive word) }
+{
+    match HeadWord::unpack(word) {
+        Some(
+            HeadWord {
+                id,
+                tag: HeadTag::Live,
             },
         ) => Some(id),
         _ => None,

@@ -4,9 +4,10 @@ ghost use Rattle.std.specs.Prelude.{◌≡◌, ◌<◌, ◌≤◌, ◌^◌};
 ghost use mathlib.Core.Logic.{◌↔◌};
 ghost use Rattle.cqs_slots.specs.Slots.{IsHome};
 ghost use Rattle.cqs_rule_laws.specs.Lists.{Has};
-ghost use Rattle.cqs_segment.specs.Finds.{Counts, IsDoneWith};
+ghost use Rattle.cqs_segment.specs.Finds.{Counts, HasDone, IsDoneWith, TakesOut};
 ghost use Rattle.cqs_segment.specs.Walks.{EndsAt, IsWalker};
 
+use crate::gaps::close_gap;
 use crate::steps::{add_count, keep_last, load_count, retire_slot};
 use atomic_table::{Seat, Shared};
 use cqs_rule_laws::{ClientWords, Key, Rule, View};
@@ -83,4 +84,30 @@ pub fn retire<C: ClientWords>(
     } else {
         Retired::Gone
     }
+}
+
+/// The same, and where the segment left by this call, it is passed by.
+pub fn take_out<C: ClientWords>(
+    words: &Shared<Option<C::Slot>, View<C::Entry, C::Slot>, Key<C>, Rule<C>>,
+    seat: &mut Seat<Option<C::Slot>, View<C::Entry, C::Slot>>,
+    slots: u32,
+    slot: u32,
+    id: u64,
+) -> Retired
+    requires table { seat.old.table_id ≡ words.now.table_id }
+    requires walker { IsWalker words.now.table_id.words seat.old.me.0 }
+    requires all { slots ≡ seat.old.me.0.slots }
+    requires low { slot < seat.old.me.0.slots }
+    requires small { id < 2 ^ 36 }
+    requires home { IsHome seat.old.me.0.segments.homes id slot }
+    ensures table { seat.new.table_id ≡ seat.old.table_id }
+    ensures takes { TakesOut slot id result seat.old.me.0 seat.new.me.0 }
+    ensures done { HasDone id seat.old.me.0 seat.new.me.0 }
+    ensures bare { seat.new.me.1 ≡ seat.old.me.1 }
+{
+    let retired = retire::<C>(words, seat, slot, id);
+    if let Retired::Out = retired {
+        close_gap::<C>(words, seat, slots, id);
+    }
+    retired
 }

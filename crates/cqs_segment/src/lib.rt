@@ -16,8 +16,10 @@
 #![tactic(auto)]
 
 mod extending;
+mod gaps;
 mod heads;
 mod leaving;
+mod links;
 mod places;
 mod slots;
 mod steps;
@@ -25,6 +27,8 @@ mod told;
 mod walk;
 
 pub use extending::{Extended, extend};
-pub use leaving::{CELLS, Retired, count_settled, retire};
+pub use gaps::close_gap;
+pub use leaving::{CELLS, Retired, count_settled, retire, take_out};
+pub use links::{next_of, pass_by};
 pub use slots::{claim, confirm, give_back};
 pub use walk::{Found, find, last};

@@ -2,22 +2,23 @@
 
 ghost use Rattle.std.specs.Prelude.{◌≡◌, ◌+◌, ◌*◌, ◌<◌, ◌≤◌, ◌^◌, [], length};
 ghost use Rattle.cqs_words.specs.Head.{head_word};
-ghost use Rattle.cqs_words.specs.Segment.{TailFits, packed_tail};
+ghost use Rattle.cqs_words.specs.Segment.{LinkFits, TailFits, packed_link, packed_tail};
 ghost use Rattle.cqs_slots.specs.Slots.{IsHome};
 ghost use Rattle.cqs_rule_laws.specs.Lists.{Has};
-ghost use Rattle.cqs_rule_laws.specs.SegmentSteps.{Began, CellCounted, Claimed, CountLoaded, Extended, HeadLoaded, LastKept, Lit, Reset, Retired, TailLoaded, Went};
+ghost use Rattle.cqs_rule_laws.specs.SegmentSteps.{Began, CellCounted, Claimed, CountLoaded, Extended, HeadLoaded, HeadSeen, LastKept, LinkLoaded, LinkRaised, Lit, Reset, Retired, TailLoaded, Went};
+ghost use Rattle.cqs_segment.specs.Links.{HaveLeftBetween};
 ghost use Rattle.cqs_segment.specs.Walks.{but_last, EndsAt, EndsReset, EndsWith, IsWalker};
 
-use crate::places::{cell_at, count_at, head_at};
+use crate::places::{cell_at, count_at, head_at, link_at};
 use crate::told::{
-    Beginning, Claiming, CountLoad, Counting, Extending, GivingBack, HeadLoad, LastKeeping,
-    Lighting, Resetting, Retiring, TailLoad,
+    Beginning, Claiming, CountLoad, Counting, Extending, GivingBack, HeadLoad, HeadLook,
+    LastKeeping, Lighting, LinkLoad, Raising, Resetting, Retiring, TailLoad,
 };
 use atomic_table::{Seat, Shared};
 use cqs_rule_laws::{
-    ClientWords, Key, Rule, TAIL_WORD, View, add_at, exchange_at, load_at, store_at,
+    ClientWords, Key, Rule, TAIL_WORD, View, add_at, exchange_at, load_at, max_at, store_at,
 };
-use cqs_words::{CellState, CellWord, HeadTag, HeadWord, TailWord};
+use cqs_words::{CellState, CellWord, HeadTag, HeadWord, LinkWord, TailWord};
 
 pub(crate) fn load_tail<C: ClientWords>(
     words: &Shared<Option<C::Slot>, View<C::Entry, C::Slot>, Key<C>, Rule<C>>,
@@ -69,6 +70,63 @@ pub(crate) fn load_head<C: ClientWords>(
     ensures bare { seat.new.me.1 ≡ seat.old.me.1 }
 {
     load_at::<C, HeadLoad<C>>(words, seat, head_at(slot))
+}
+
+// The same by a pass that took a segment out, and looks for its neighbours.
+pub(crate) fn see_head<C: ClientWords>(
+    words: &Shared<Option<C::Slot>, View<C::Entry, C::Slot>, Key<C>, Rule<C>>,
+    seat: &mut Seat<Option<C::Slot>, View<C::Entry, C::Slot>>,
+    slot: u32,
+) -> u64
+    requires table { seat.old.table_id ≡ words.now.table_id }
+    requires walker { IsWalker words.now.table_id.words seat.old.me.0 }
+    requires low { slot < seat.old.me.0.slots }
+    ensures table { seat.new.table_id ≡ seat.old.table_id }
+    ensures seen { HeadSeen slot seat.old.me.0 result seat.new.me.0 }
+    ensures bare { seat.new.me.1 ≡ seat.old.me.1 }
+{
+    load_at::<C, HeadLook<C>>(words, seat, head_at(slot))
+}
+
+pub(crate) fn load_link<C: ClientWords>(
+    words: &Shared<Option<C::Slot>, View<C::Entry, C::Slot>, Key<C>, Rule<C>>,
+    seat: &mut Seat<Option<C::Slot>, View<C::Entry, C::Slot>>,
+    slot: u32,
+) -> LinkWord
+    requires table { seat.old.table_id ≡ words.now.table_id }
+    requires walker { IsWalker words.now.table_id.words seat.old.me.0 }
+    requires low { slot < seat.old.me.0.slots }
+    ensures table { seat.new.table_id ≡ seat.old.table_id }
+    ensures loaded { LinkLoaded slot seat.old.me.0 (packed_link result) seat.new.me.0 }
+    ensures fits { LinkFits result }
+    ensures bare { seat.new.me.1 ≡ seat.old.me.1 }
+{
+    let word = load_at::<C, LinkLoad<C>>(words, seat, link_at(slot));
+    match LinkWord::unpack(word) {
+        Some(link) => link,
+        None => unreachable!(),
+    }
+}
+
+// Raises the link of a segment's slot to a later segment, if it isn't above that.
+pub(crate) fn raise_link<C: ClientWords>(
+    words: &Shared<Option<C::Slot>, View<C::Entry, C::Slot>, Key<C>, Rule<C>>,
+    seat: &mut Seat<Option<C::Slot>, View<C::Entry, C::Slot>>,
+    from: LinkWord,
+    to: LinkWord,
+)
+    requires table { seat.old.table_id ≡ words.now.table_id }
+    requires walker { IsWalker words.now.table_id.words seat.old.me.0 }
+    requires low { from.slot < seat.old.me.0.slots }
+    requires fits { LinkFits to }
+    requires from { IsHome seat.old.me.0.segments.homes from.id from.slot }
+    requires to { IsHome seat.old.me.0.segments.homes to.id to.slot }
+    requires passed { HaveLeftBetween from.id to.id seat.old.me.0 }
+    ensures table { seat.new.table_id ≡ seat.old.table_id }
+    ensures raised { LinkRaised from.slot (packed_link to) seat.old.me.0 seat.new.me.0 }
+    ensures bare { seat.new.me.1 ≡ seat.old.me.1 }
+{
+    max_at::<C, Raising<C>>(words, seat, link_at(from.slot), to.pack());
 }
 
 pub(crate) fn load_count<C: ClientWords>(

@@ -1,6 +1,6 @@
 //! What each single step tells. These types are for the proofs alone.
 
-ghost use Rattle.cqs_segment.specs.Told.{add_told, back_told, begin_told, claim_told, count_told, extend_told, head_told, last_told, light_told, reset_told, retire_told, tail_told};
+ghost use Rattle.cqs_segment.specs.Told.{add_told, back_told, begin_told, claim_told, count_told, extend_told, head_told, last_told, light_told, link_told, raise_told, reset_told, retire_told, see_told, tail_told};
 
 use cqs_rule_laws::{ClientWords, Telling};
 use std::marker::PhantomData;
@@ -30,6 +30,33 @@ pub(crate) struct HeadLoad<C> {
 
 impl<C: ClientWords> Telling<C> for HeadLoad<C> {
     ghost told = { head_told };
+}
+
+/// The head of a slot is looked at by a pass that took a segment out.
+pub(crate) struct HeadLook<C> {
+    of: PhantomData<C>,
+}
+
+impl<C: ClientWords> Telling<C> for HeadLook<C> {
+    ghost told = { see_told };
+}
+
+/// The link of a slot is loaded.
+pub(crate) struct LinkLoad<C> {
+    of: PhantomData<C>,
+}
+
+impl<C: ClientWords> Telling<C> for LinkLoad<C> {
+    ghost told = { link_told };
+}
+
+/// The link of a slot is raised.
+pub(crate) struct Raising<C> {
+    of: PhantomData<C>,
+}
+
+impl<C: ClientWords> Telling<C> for Raising<C> {
+    ghost told = { raise_told };
 }
 
 /// A slot's number of counted cells is loaded.

@@ -1,5 +1,5 @@
 -- A slot is claimed, or given back.
-use Rattle.std.proofs.Common.{◌≡◌, ℕ, ◌<◌, List, sym, refl, ◌∙◌, subst, arith}
+use Rattle.std.proofs.Common.{◌≡◌, ℕ, ◌<◌, List, sym, refl, ap, ◌∙◌, subst, arith}
 use Rattle.std.specs.Prelude.{slice_index, slice_set}
 use Rattle.cqs_words.specs.Head.{head_word}
 use Rattle.cqs_slots.specs.Layout.{head_place}
@@ -26,7 +26,8 @@ module _ (n : ℕ) (t : Segments) (c : ℕ → ℕ) (words : List ℕ) (show : S
         low = below;
         long = set-long words (head_place x) z;
         words_stay = stay-in words (head_place x) x z (omega arith) (omega arith);
-        show = show-idle n t c words x z b show below is idle' none-done;
+        show = show-idle n t c words x z b show below is idle' none-done
+            (let e : last_id (t.slots x) ≡ last_id b = ap last_id was ∙ sym ids in omega arith);
         sound = sound-idle n t x a b idle idle' ids lasts old-one (subst (SlotSound t x) was (sound.each x below));
         outs_grow = prefix-same t.outs;
         outs_made = sound.outs_made;

@@ -5,12 +5,13 @@ use mathlib.Core.Logic.{dite}
 use native.Mathlib.Decide.{ℕ_discrete}
 use Rattle.cqs_core.specs.Parts.{Has}
 use Rattle.cqs_core.proofs.Places.{get-below}
-use Rattle.cqs_slots.specs.Layout.{tail_place, head_place, count_place, slot_cell}
-use Rattle.cqs_slots.specs.Slots.{Segments, Slot, free, spare, fresh, live, IsHome, IsSegment, settled_in, IsLater}
+use Rattle.cqs_slots.specs.Layout.{tail_place, head_place, link_place, count_place, slot_cell}
+use Rattle.cqs_slots.specs.Slots.{Segments, Slot, free, spare, fresh, live, IsHome, IsSegment, last_id, settled_in, IsLater}
 use Rattle.cqs_slots.specs.Shown.{SlotShows, Shows, AreSound, AreCounted}
 use Rattle.cqs_slots.specs.Steps.{fuller, with_counted}
 use Rattle.cqs_slots.proofs.Lists.{prefix-same, prefix-more, has_left, has_right, has_append, changed_at, changed_else, other-word, this-word, one-home}
 use Rattle.cqs_slots.proofs.Counted.{few-settled}
+use Rattle.cqs_slots.proofs.Links.{link-stays}
 use Rattle.cqs_slots.proofs.Stays.{slot-stays}
 use Rattle.cqs_slots.proofs.Turns.{set-long, since-stays}
 
@@ -84,6 +85,11 @@ module _ (n : ℕ) (t : Segments) (c : ℕ → ℕ) (words : List ℕ) (show : S
         (λ j less. other-word words (count_place x) (slot_cell x j) z (λ e. omega arith)) old.since;
     resets = λ i a e j f more less. absurd (not-spare (t.slots x) s i a e seg f);
     reset_count = λ i a e f all. absurd (not-spare (t.slots x) s i a e seg f);
+    link = link-stays t.homes t.homes t.outs t.outs (last_id (t.slots x)) (last_id (t.slots x)) _ _
+        (prefix-same t.homes) (prefix-same t.outs) (omega arith)
+        (other-word words (count_place x) (link_place x) z (λ e. omega arith)) old.link;
+    raised = λ m h. let e = other-word words (count_place x) (link_place x) z (λ e. omega arith) in
+        let less = old.raised m h in omega arith;
   }
 
   pub counted-shows : Shows n (with_counted t s) c (slice_set words (count_place x) (t.counted s + 1))
@@ -98,7 +104,7 @@ module _ (n : ℕ) (t : Segments) (c : ℕ → ℕ) (words : List ℕ) (show : S
         (subst (λ m. IsHome t.homes m y) e ((sound.each y low).home q g)) home)))
         (λ q i h less. refl)
         (λ q g. (sound.each y low).home q g)
-        (λ q h. h) (show.each y low));
+        (λ q h. h) (prefix-same t.homes) (prefix-same t.outs) (λ m h. h) (show.each y low));
   }
 
   other-counted : (q : ℕ) → t.counted q ≡ 32 → q ≢ s
@@ -149,6 +155,7 @@ module _ (n : ℕ) (t : Segments) (c : ℕ → ℕ) (words : List ℕ) (show : S
     kept = prefix-same t.kept;
     outs = prefix-same t.outs;
     full = prefix-more t.full _;
+    links = prefix-same t.links;
     lit = omega arith;
   }
 

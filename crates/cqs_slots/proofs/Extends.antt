@@ -6,11 +6,12 @@ use mathlib.Core.Logic.{dite}
 use native.Mathlib.Decide.{ℕ_discrete}
 use Rattle.cqs_core.proofs.Places.{get-below, get-there, get-append_left, get-append_below, get-push_at}
 use Rattle.cqs_words.specs.Segment.{segment_word}
-use Rattle.cqs_slots.specs.Layout.{tail_place, head_place, count_place, slot_cell}
+use Rattle.cqs_slots.specs.Layout.{tail_place, head_place, link_place, count_place, slot_cell}
 use Rattle.cqs_slots.specs.Slots.{Segments, Slot, free, spare, fresh, live, IsHome, IsSegment, slot_head, last_id}
 use Rattle.cqs_slots.specs.Shown.{IsSince, SlotShows, SlotSound, Shows, AreSound, AreCells, Becomes}
 use Rattle.cqs_slots.specs.Steps.{with_tail}
 use Rattle.cqs_slots.proofs.Lists.{prefix-same, prefix-more, changed_at, changed_else, other-word, this-word, one-home}
+use Rattle.cqs_slots.proofs.Links.{link-stays}
 use Rattle.cqs_slots.proofs.Stays.{slot-stays}
 use Rattle.cqs_slots.proofs.Turns.{set-long}
 
@@ -94,6 +95,11 @@ module _ (n : ℕ) (t : Segments) (c : ℕ → ℕ) (words : List ℕ) (show : S
         (back q y h);
     resets = λ i e f j is more few. absurd (cc);
     reset_count = λ i e f is all. absurd (cc);
+    link = link-stays t.homes u.homes t.outs t.outs (last_id (t.slots y)) (t.tail + 1) _ _
+        (prefix-more t.homes (y ∷ []))
+        (prefix-same t.outs) (let q : last_id (t.slots y) ≡ id = ap last_id was in omega arith)
+        (stay (link_place y) (omega arith)) old.link;
+    raised = λ word h. let e = stay (link_place y) (omega arith) in let less = old.raised word h in omega arith;
   }
 
   was-sound : SlotSound t y (spare id t.tail 34)
@@ -143,7 +149,7 @@ module _ (n : ℕ) (t : Segments) (c : ℕ → ℕ) (words : List ℕ) (show : S
         (λ i from upto. stay i (omega arith)) (λ q f. refl) (λ q j h few. refl)
         (λ q f. (sound.each x below).home q f)
         (λ q h. ⊎_elim (λ was-home. was-home) (λ (new : (q ≡ t.tail + 1) × (x ≡ y)). absurd (g new.1)) (back q x h))
-        (show.each x below)));
+        (prefix-more t.homes (y ∷ [])) (prefix-same t.outs) (λ word h. h) (show.each x below)));
   }
 
   sound-then : AreSound n u
@@ -198,6 +204,7 @@ module _ (n : ℕ) (t : Segments) (c : ℕ → ℕ) (words : List ℕ) (show : S
       kept = prefix-more t.kept (id ∷ []);
       outs = prefix-same t.outs;
       full = prefix-same t.full;
+      links = prefix-same t.links;
       lit = omega arith;
     };
     others = λ x apart. changed_else t.slots y b x apart;

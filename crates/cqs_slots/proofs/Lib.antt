@@ -1,6 +1,7 @@
 pub mod Lists
 pub mod Counted
 pub mod Places
+pub mod Links
 pub mod Stays
 pub mod Stands
 pub mod Turns
@@ -11,6 +12,7 @@ pub mod Extends
 pub mod Counts
 pub mod Writes
 pub mod Loads
+pub mod Linked
 pub mod Opens
 pub mod Joined
 pub mod Unsettled

@@ -8,7 +8,7 @@ use native.Mathlib.Decide.{ℕ_discrete}
 use Rattle.cqs_core.specs.Parts.{Has, IsPrefix}
 use Rattle.cqs_core.proofs.Places.{get-append_left}
 use Rattle.cqs_slots.specs.Lists.{IsDistinct, without}
-use Rattle.cqs_slots.specs.Slots.{IsHome, changed}
+use Rattle.cqs_slots.specs.Slots.{IsHome, IsRaised, changed}
 
 module _ {A : Type 0} where
   pub prefix-same : (a : List A) → IsPrefix a a
@@ -45,6 +45,25 @@ has_append n (x ∷ xs) b (inr h) = ⊎_elim (λ t. inl (inr t)) inr (has_append
 
 pub has_prefix : (n : ℕ) (a b : List ℕ) → IsPrefix a b → Has n a → Has n b
 has_prefix n a b p h = subst (Has n) (sym p.1) (has_left n a p.0 h)
+
+-- links
+pub raised_left : (x word : ℕ) (a b : List (ℕ × ℕ)) → IsRaised x word a → IsRaised x word (a ++ b)
+raised_left x word [] b h = absurd h
+raised_left x word (link ∷ links) b (inl e) = inl e
+raised_left x word (link ∷ links) b (inr h) = inr (raised_left x word links b h)
+
+pub raised_right : (x word : ℕ) (a b : List (ℕ × ℕ)) → IsRaised x word b → IsRaised x word (a ++ b)
+raised_right x word [] b h = h
+raised_right x word (link ∷ links) b h = inr (raised_right x word links b h)
+
+pub raised_append : (x word : ℕ) (a b : List (ℕ × ℕ)) → IsRaised x word (a ++ b)
+    → IsRaised x word a ⊎ IsRaised x word b
+raised_append x word [] b h = inr h
+raised_append x word (link ∷ links) b (inl e) = inl (inl e)
+raised_append x word (link ∷ links) b (inr h) = ⊎_elim (λ t. inl (inr t)) inr (raised_append x word links b h)
+
+pub raised_prefix : (x word : ℕ) (a b : List (ℕ × ℕ)) → IsPrefix a b → IsRaised x word a → IsRaised x word b
+raised_prefix x word a b p h = subst (IsRaised x word) (sym p.1) (raised_left x word a p.0 h)
 
 -- homes
 pub home-prefix : (a b : List ℕ) (s x : ℕ) → IsPrefix a b → IsHome a s x → IsHome b s x

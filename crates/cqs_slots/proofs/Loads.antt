@@ -19,6 +19,7 @@ knows-all t = record {
   kept = prefix-same t.kept;
   outs = prefix-same t.outs;
   full = prefix-same t.full;
+  links = prefix-same t.links;
   lit = omega arith;
 }
 
@@ -28,11 +29,19 @@ knows-later t u v later k = record {
   kept = prefix-then v.kept t.kept u.kept k.kept later.kept;
   outs = prefix-then v.outs t.outs u.outs k.outs later.outs;
   full = prefix-then v.full t.full u.full k.full later.full;
+  links = prefix-then v.links t.links u.links k.links later.links;
   lit = let a = k.lit in let b = later.lit in omega arith;
 }
 
 pub sees-all : (t : Segments) (v : Seen) → Knows t v → SeesMore v (all_seen t)
-sees-all t v k = record { homes = k.homes; kept = k.kept; outs = k.outs; full = k.full; lit = k.lit }
+sees-all t v k = record {
+  homes = k.homes;
+  kept = k.kept;
+  outs = k.outs;
+  full = k.full;
+  links = k.links;
+  lit = k.lit;
+}
 
 pub sees-same : (v : Seen) → SeesMore v v
 sees-same v = record {
@@ -40,6 +49,7 @@ sees-same v = record {
   kept = prefix-same v.kept;
   outs = prefix-same v.outs;
   full = prefix-same v.full;
+  links = prefix-same v.links;
   lit = omega arith;
 }
 
@@ -49,6 +59,7 @@ sees-then u v w a b = record {
   kept = prefix-then u.kept v.kept w.kept a.kept b.kept;
   outs = prefix-then u.outs v.outs w.outs a.outs b.outs;
   full = prefix-then u.full v.full w.full a.full b.full;
+  links = prefix-then u.links v.links w.links a.links b.links;
   lit = let p = a.lit in let q = b.lit in omega arith;
 }
 
@@ -58,6 +69,7 @@ later-same t = record {
   kept = prefix-same t.kept;
   outs = prefix-same t.outs;
   full = prefix-same t.full;
+  links = prefix-same t.links;
   lit = omega arith;
 }
 

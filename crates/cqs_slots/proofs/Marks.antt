@@ -3,11 +3,12 @@ use Rattle.std.proofs.Common.{◌≡◌, ◌⊎◌, ℕ, ◌+◌, ◌<◌, ◌�
 use Rattle.std.specs.Prelude.{slice_index, slice_set}
 use Rattle.cqs_core.specs.Parts.{Has}
 use Rattle.cqs_words.specs.Head.{head_word}
-use Rattle.cqs_slots.specs.Layout.{head_place, count_place}
+use Rattle.cqs_slots.specs.Layout.{head_place, link_place, count_place}
 use Rattle.cqs_slots.specs.Slots.{Segments, Slot, free, spare, fresh, live, IsHome, IsSegment, slot_head, IsLast}
 use Rattle.cqs_slots.specs.Shown.{SlotShows, SlotSound, Shows, AreSound, Becomes}
 use Rattle.cqs_slots.specs.Steps.{with_slot}
 use Rattle.cqs_slots.proofs.Lists.{prefix-same, prefix-more, has_left, has_right, has_append, other-word, one-home}
+use Rattle.cqs_slots.proofs.Links.{link-stays}
 use Rattle.cqs_slots.proofs.Places.{stay-in, cells-stay}
 use Rattle.cqs_slots.proofs.Turns.{turn, set-long, is-live, since-stays, head-inside}
 
@@ -62,6 +63,10 @@ module _ (n : ℕ) (t : Segments) (c : ℕ → ℕ) (words : List ℕ) (show : S
               (λ q few. cells-stay words x z q) old.since;
           resets = λ i' a' d' q f more few. absurd (cc);
           reset_count = λ i' a' d' f all. absurd (cc);
+          link = link-stays t.homes t.homes t.outs t.outs s s _ _ (prefix-same t.homes) (prefix-same t.outs)
+              (omega arith) (other-word words (head_place x) (link_place x) z (λ q. omega arith)) old.link;
+          raised = λ word h. let e = other-word words (head_place x) (link_place x) z (λ q. omega arith) in
+              let less = old.raised word h in omega arith;
         };
         sound = record {
           home = λ m seg. is.home m seg;
@@ -113,6 +118,10 @@ module _ (n : ℕ) (t : Segments) (c : ℕ → ℕ) (words : List ℕ) (show : S
               (λ q few. cells-stay words x z q) old.since;
           resets = λ i' a' d' q f more few. absurd (cc);
           reset_count = λ i' a' d' f all. absurd (cc);
+          link = link-stays t.homes t.homes t.outs outs s s _ _ (prefix-same t.homes) (prefix-more t.outs (s ∷ []))
+              (omega arith) (other-word words (head_place x) (link_place x) z (λ q. omega arith)) old.link;
+          raised = λ word h. let e = other-word words (head_place x) (link_place x) z (λ q. omega arith) in
+              let less = old.raised word h in omega arith;
         };
         sound = record {
           home = λ m seg. absurd seg;

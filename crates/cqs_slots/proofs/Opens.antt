@@ -11,6 +11,7 @@ use Rattle.cqs_slots.specs.Shown.{IsSince, SlotShows, SlotSound, Shows, AreSound
 use Rattle.cqs_slots.specs.Laws.{FirstSegmentsAreSound}
 use Rattle.cqs_slots.specs.Opened.{numbers_from, first_slot, first_segments, OpensWith}
 use Rattle.cqs_slots.proofs.Counted.{none-in}
+use Rattle.cqs_slots.proofs.Links.{link-none}
 
 pub numbers-length : (k m : ℕ) → length (numbers_from k m) ≡ m
 numbers-length k zero = refl
@@ -60,6 +61,8 @@ module _ (n m : ℕ) (c : ℕ → ℕ) (some : 0 < m) (few : m ≤ n) (most : n 
         (record { later = omega arith; same = λ e. refl }));
     resets = λ i a d j e more less. absurd (cc);
     reset_count = λ i a d e all. absurd (cc);
+    link = link-none _ _ _ _ (o.link x (omega arith));
+    raised = λ word h. absurd h;
   }
 
   show-free : (words : List ℕ) → OpensWith n m c words → (x : ℕ) → m ≤ x → x < n
@@ -71,6 +74,8 @@ module _ (n m : ℕ) (c : ℕ → ℕ) (some : 0 < m) (few : m ≤ n) (most : n 
     since = λ s j home less. let h = home-is m s x home in let a = h.0 in let b = h.1 in absurd (omega arith);
     resets = λ i a d j e more less. absurd (cc);
     reset_count = λ i a d e all. absurd (cc);
+    link = link-none _ _ _ _ (o.link x (omega arith));
+    raised = λ word h. absurd h;
   }
 
   pub opens-shows : (words : List ℕ) → OpensWith n m c words → ((k : ℕ) → index_in (c k) ≡ k)

@@ -4,11 +4,12 @@ use Rattle.std.specs.Prelude.{slice_index, slice_set}
 use mathlib.Core.Logic.{dite}
 use native.Mathlib.Decide.{ℕ_discrete}
 use Rattle.cqs_words.specs.Cell.{index_in}
-use Rattle.cqs_slots.specs.Layout.{head_place, count_place, slot_cell, empty_word, IsElse}
+use Rattle.cqs_slots.specs.Layout.{head_place, link_place, count_place, slot_cell, empty_word, IsElse}
 use Rattle.cqs_slots.specs.Slots.{Segments, Slot, spare, IsHome, slot_head, IsLast, last_id}
 use Rattle.cqs_slots.specs.Shown.{IsSince, SlotSound, Shows, AreSound, Becomes}
 use Rattle.cqs_slots.specs.Steps.{with_slot}
 use Rattle.cqs_slots.proofs.Lists.{prefix-same, other-word, this-word}
+use Rattle.cqs_slots.proofs.Links.{link-stays}
 use Rattle.cqs_slots.proofs.Places.{stay-in}
 use Rattle.cqs_slots.proofs.Turns.{turn, set-long, after_of, done_of, sound-idle, since-stays, no-tail}
 
@@ -21,6 +22,7 @@ record Reset (t : Segments) (c : ℕ → ℕ) (words words' : List ℕ) (x e f :
   long : length words ≤ length words'
   stay : (i : ℕ) → IsElse i x → slice_index words' i ≡ slice_index words i
   head : slice_index words' (head_place x) ≡ slice_index words (head_place x)
+  link : slice_index words' (link_place x) ≡ slice_index words (link_place x)
   since : (s j : ℕ) → IsHome t.homes s x → j < 32 → IsSince c (32 * s + j) (slice_index words' (slot_cell x j))
   cells : (j : ℕ) → j + 1 < f → j < 32 → slice_index words' (slot_cell x j) ≡ empty_word (32 * (e + 1) + j)
   count : 33 < f → slice_index words' (count_place x) ≡ 0
@@ -45,6 +47,10 @@ module _ (n : ℕ) (t : Segments) (c : ℕ → ℕ) (words : List ℕ) (show : S
               let p : e ≡ a' = ap after_of is in
               reset.cells j (omega arith) few ∙ ap (λ y. empty_word (32 * (y + 1) + j)) p;
           reset_count = λ i' a' d' is all. let q : f ≡ d' = ap done_of is in reset.count (omega arith);
+          link = link-stays t.homes t.homes t.outs t.outs (last_id (t.slots x)) id _ _ (prefix-same t.homes)
+              (prefix-same t.outs) (let q : last_id (t.slots x) ≡ id = ap last_id was in omega arith) reset.link
+              (show.each x below).link;
+          raised = λ word h. let e = reset.link in let less = (show.each x below).raised word h in omega arith;
         };
         sound = sound-idle n t x (spare id a d) b (λ s y. y) (λ s y. y) refl (λ s y. y) (λ s j y. absurd (cc))
             (subst (SlotSound t x) was (sound.each x below));
@@ -69,6 +75,7 @@ module _ (n : ℕ) (t : Segments) (c : ℕ → ℕ) (words : List ℕ) (show : S
     long = omega arith;
     stay = λ i z. refl;
     head = refl;
+    link = refl;
     since = (show.each x below).since;
     cells = λ j more few. absurd (omega arith);
     count = λ more. absurd (omega arith);
@@ -91,6 +98,7 @@ module _ (n : ℕ) (t : Segments) (c : ℕ → ℕ) (words : List ℕ) (show : S
         long = set-long words word new;
         stay = stay-in words word x new (omega arith) (omega arith);
         head = other-word words word (head_place x) new (λ e. omega arith);
+        link = other-word words word (link_place x) new (λ e. omega arith);
         since = λ s i home less. dite (ℕ_discrete i j)
             (λ (e : i ≡ j).
             let is : slice_index words' (slot_cell x i) ≡ new =
@@ -121,6 +129,7 @@ module _ (n : ℕ) (t : Segments) (c : ℕ → ℕ) (words : List ℕ) (show : S
         long = set-long words word 0;
         stay = stay-in words word x 0 (omega arith) (omega arith);
         head = other-word words word (head_place x) 0 (λ e. omega arith);
+        link = other-word words word (link_place x) 0 (λ e. omega arith);
         since = since-stays t t c words words' x (λ s h. h)
             (λ j few. other-word words word (slot_cell x j) 0 (λ q. omega arith)) old.since;
         cells = λ i more less. other-word words word (slot_cell x i) 0 (λ q. omega arith)

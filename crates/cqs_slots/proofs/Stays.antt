@@ -3,12 +3,13 @@ use Rattle.std.proofs.Common.{◌≡◌, ◌≢◌, ℕ, ◌+◌, ◌*◌, ◌<�
 use Rattle.std.specs.Prelude.{slice_index}
 use mathlib.Core.Logic.{dite}
 use native.Mathlib.Decide.{ℕ_discrete}
-use Rattle.cqs_core.specs.Parts.{Has}
-use Rattle.cqs_slots.specs.Layout.{tail_place, head_place, count_place, slot_cell, IsElse}
-use Rattle.cqs_slots.specs.Slots.{Segments, Slot, fresh, live, IsHome, IsSegment}
+use Rattle.cqs_core.specs.Parts.{Has, IsPrefix}
+use Rattle.cqs_slots.specs.Layout.{tail_place, head_place, link_place, count_place, slot_cell, IsElse}
+use Rattle.cqs_slots.specs.Slots.{Segments, Slot, fresh, live, IsHome, IsSegment, IsRaised, last_id}
 use Rattle.cqs_slots.specs.Shown.{IsSince, SlotShows, SlotSound, Shows, AreSound}
 use Rattle.cqs_slots.specs.Steps.{with_slot}
-use Rattle.cqs_slots.proofs.Lists.{changed_at, changed_else}
+use Rattle.cqs_slots.proofs.Lists.{prefix-same, changed_at, changed_else}
+use Rattle.cqs_slots.proofs.Links.{link-stays}
 use Rattle.cqs_slots.proofs.Places.{WordsStay, else-of}
 
 -- what was seen of a cell's word holds as long as the cell says the same
@@ -22,8 +23,10 @@ pub slot-stays : (t u : Segments) (c d : ℕ → ℕ) (words words' : List ℕ) 
     → ((s j : ℕ) → IsHome t.homes s y → j < 32 → d (32 * s + j) ≡ c (32 * s + j))
     → ((s : ℕ) → IsSegment slot s → IsHome t.homes s y)
     → ((s : ℕ) → IsHome u.homes s y → IsHome t.homes s y)
+    → IsPrefix t.homes u.homes → IsPrefix t.outs u.outs
+    → ((word : ℕ) → IsRaised y word u.links → IsRaised y word t.links)
     → SlotShows t c words y slot → SlotShows u d words' y slot
-slot-stays t u c d words words' y slot stay counts says seg back show = record {
+slot-stays t u c d words words' y slot stay counts says seg back more gone raise show = record {
   head = stay (head_place y) (omega arith) (omega arith) ∙ show.head;
   count = λ s is. stay (count_place y) (omega arith) (omega arith) ∙ (show.count s is ∙ sym (counts s is));
   cells = λ s j is few. stay (slot_cell y j) (omega arith) (omega arith)
@@ -33,6 +36,11 @@ slot-stays t u c d words words' y slot stay counts says seg back show = record {
       (says s j (back s home) few) (show.since s j (back s home) few);
   resets = λ i a e j is more few. stay (slot_cell y j) (omega arith) (omega arith) ∙ show.resets i a e j is more few;
   reset_count = λ i a e is all. stay (count_place y) (omega arith) (omega arith) ∙ show.reset_count i a e is all;
+  link = link-stays t.homes u.homes t.outs u.outs (last_id slot) (last_id slot) (slice_index words (link_place y))
+      (slice_index words' (link_place y)) more gone (omega arith) (stay (link_place y) (omega arith) (omega arith))
+      show.link;
+  raised = λ word h. let e = stay (link_place y) (omega arith) (omega arith) in
+      let low = show.raised word (raise word h) in omega arith;
 }
 
 -- the words of all slots and of the tail stay, and each cell says what it said
@@ -45,7 +53,8 @@ all-stay n t c d words words' sound long stay says show = record {
   wide = let w = show.wide in omega arith;
   tail = λ x home. stay tail_place (omega arith) ∙ show.tail x home;
   each = λ x low. slot-stays t t c d words words' x (t.slots x) (λ i from below. stay i (omega arith)) (λ s is. refl)
-      (λ s j home few. says (32 * s + j)) (λ s is. (sound.each x low).home s is) (λ s home. home) (show.each x low);
+      (λ s j home few. says (32 * s + j)) (λ s is. (sound.each x low).home s is) (λ s home. home) (prefix-same t.homes)
+      (prefix-same t.outs) (λ word h. h) (show.each x low);
 }
 
 module _ (n : ℕ) (t : Segments) (x : ℕ) (b : Slot) (outs : List ℕ) (lit : ℕ) where
@@ -55,8 +64,8 @@ module _ (n : ℕ) (t : Segments) (x : ℕ) (b : Slot) (outs : List ℕ) (lit : 
   pub slot-shows : (c : ℕ → ℕ) (words words' : List ℕ)
       → length words ≤ length words'
       → ((i : ℕ) → IsElse i x → slice_index words' i ≡ slice_index words i)
-      → AreSound n t → SlotShows u c words' x b → Shows n t c words → Shows n u c words'
-  slot-shows c words words' long stay sound mine show = record {
+      → AreSound n t → IsPrefix t.outs outs → SlotShows u c words' x b → Shows n t c words → Shows n u c words'
+  slot-shows c words words' long stay sound gone mine show = record {
     wide = let w = show.wide in omega arith;
     tail = λ y home. stay tail_place (inl (omega arith)) ∙ show.tail y home;
     each = λ y low. dite (ℕ_discrete y x)
@@ -65,7 +74,8 @@ module _ (n : ℕ) (t : Segments) (x : ℕ) (b : Slot) (outs : List ℕ) (lit : 
         (λ (a : y ≢ x). subst (SlotShows u c words' y) (sym (changed_else t.slots x b y a))
         (slot-stays t u c c words words' y (t.slots y)
         (λ i from below. stay i (else-of i x y a from below)) (λ s is. refl) (λ s j home few. refl)
-        (λ s is. (sound.each y low).home s is) (λ s home. home) (show.each y low)));
+        (λ s is. (sound.each y low).home s is) (λ s home. home) (prefix-same t.homes) gone
+        (λ word h. h) (show.each y low)));
   }
 
   pub slot-sound : x < n → SlotSound u x b

@@ -4,11 +4,12 @@ use Rattle.std.specs.Prelude.{slice_index, slice_set}
 use Rattle.std.proofs.lemmas.List.{length-set}
 use Rattle.cqs_core.specs.Parts.{Has, IsPrefix}
 use Rattle.cqs_words.specs.Head.{head_word}
-use Rattle.cqs_slots.specs.Layout.{head_place, slot_cell, IsElse}
+use Rattle.cqs_slots.specs.Layout.{head_place, link_place, slot_cell, IsElse}
 use Rattle.cqs_slots.specs.Slots.{Segments, Slot, free, spare, fresh, live, IsHome, IsSegment, slot_head, IsLast, last_id}
 use Rattle.cqs_slots.specs.Shown.{IsSince, SlotShows, SlotSound, Shows, AreSound, Becomes}
 use Rattle.cqs_slots.specs.Steps.{with_slot}
-use Rattle.cqs_slots.proofs.Lists.{prefix-same, has_prefix, changed_else, this-word}
+use Rattle.cqs_slots.proofs.Lists.{prefix-same, has_prefix, changed_else, other-word, this-word}
+use Rattle.cqs_slots.proofs.Links.{link-stays}
 use Rattle.cqs_slots.proofs.Places.{cells-stay}
 use Rattle.cqs_slots.proofs.Stays.{slot-shows, slot-sound, since-same}
 
@@ -33,7 +34,7 @@ pub turn : (n : ℕ) (t : Segments) (c : ℕ → ℕ) (x : ℕ) (b : Slot) (outs
     → Shows n t c words → AreSound n t → SlotTurn n t c x b outs lit words words'
     → Becomes n x t (with_slot t x b outs lit) c words'
 turn n t c x b outs lit words words' show sound k = record {
-  shows = slot-shows n t x b outs lit c words words' k.long k.words_stay sound k.show show;
+  shows = slot-shows n t x b outs lit c words words' k.long k.words_stay sound k.outs_grow k.show show;
   sound = slot-sound n t x b outs lit k.low k.sound k.tail_in
       (let near = sound.lit_near in let a = k.lit_up in (omega arith, k.lit_most)) k.lit_up k.lit_is
       (λ s has. has_prefix s t.outs outs k.outs_grow has) k.outs_made k.outs_back k.young sound;
@@ -42,6 +43,7 @@ turn n t c x b outs lit words words' show sound k = record {
     kept = prefix-same t.kept;
     outs = k.outs_grow;
     full = prefix-same t.full;
+    links = prefix-same t.links;
     lit = k.lit_up;
   };
   others = λ y apart. changed_else t.slots x b y apart;
@@ -108,9 +110,9 @@ head-inside n t c words x z show below = let wide = show.wide in this-word words
 
 -- the head of a slot that is no segment's home is written
 pub show-idle : (n : ℕ) (t : Segments) (c : ℕ → ℕ) (words : List ℕ) (x z : ℕ) (b : Slot) → Shows n t c words → x < n
-    → z ≡ slot_head b → ((s : ℕ) → IsSegment b s → ⊥) → done_of b ≡ 0
+    → z ≡ slot_head b → ((s : ℕ) → IsSegment b s → ⊥) → done_of b ≡ 0 → last_id (t.slots x) ≤ last_id b
     → SlotShows (with_slot t x b t.outs t.lit) c (slice_set words (head_place x) z) x b
-show-idle n t c words x z b show below is idle none-done = record {
+show-idle n t c words x z b show below is idle none-done up = record {
   head = head-inside n t c words x z show below ∙ is;
   count = λ s seg. absurd (idle s seg);
   cells = λ s j seg few. absurd (idle s seg);
@@ -118,6 +120,11 @@ show-idle n t c words x z b show below is idle none-done = record {
       (λ j few. cells-stay words x z j) (show.each x below).since;
   resets = λ i a d j e more few. let q : done_of b ≡ d = ap done_of e in absurd (omega arith);
   reset_count = λ i a d e all. let q : done_of b ≡ d = ap done_of e in absurd (omega arith);
+  link = link-stays t.homes t.homes t.outs t.outs (last_id (t.slots x)) (last_id b) _ _ (prefix-same t.homes)
+      (prefix-same t.outs) up (other-word words (head_place x) (link_place x) z (λ e. omega arith))
+      (show.each x below).link;
+  raised = λ word h. let e = other-word words (head_place x) (link_place x) z (λ e. omega arith) in
+      let low = (show.each x below).raised word h in omega arith;
 }
 
 -- a slot that is no segment's home isn't the tail's

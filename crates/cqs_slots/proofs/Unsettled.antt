@@ -4,7 +4,7 @@ use Rattle.std.proofs.lemmas.Bool.{cases_lt}
 use Rattle.cqs_core.specs.Parts.{Has}
 use Rattle.cqs_core.proofs.Places.{get-there}
 use Rattle.cqs_slots.specs.Lists.{IsDistinct}
-use Rattle.cqs_slots.specs.Slots.{Segments, IsHome, IsSegment}
+use Rattle.cqs_slots.specs.Slots.{Segments, IsSegment}
 use Rattle.cqs_slots.specs.Shown.{AreSound, AreCounted}
 use Rattle.cqs_slots.specs.Laws.{UnsettledCellsAreFew}
 use Rattle.cqs_slots.proofs.Counts.{one-segment}

@@ -5,12 +5,13 @@ use mathlib.Core.Logic.{dite}
 use native.Mathlib.Decide.{ℕ_discrete}
 use Rattle.cqs_core.proofs.Places.{get-below}
 use Rattle.cqs_words.specs.Cell.{index_in}
-use Rattle.cqs_slots.specs.Layout.{tail_place, head_place, count_place, slot_cell}
-use Rattle.cqs_slots.specs.Slots.{Segments, IsHome, IsSegment, changed, settled_in}
+use Rattle.cqs_slots.specs.Layout.{tail_place, head_place, link_place, count_place, slot_cell}
+use Rattle.cqs_slots.specs.Slots.{Segments, IsHome, IsSegment, last_id, changed, settled_in}
 use Rattle.cqs_slots.specs.Shown.{IsSince, SlotShows, Shows, AreSound, AreCells, AreCounted}
-use Rattle.cqs_slots.proofs.Lists.{other-word, this-word, one-home}
+use Rattle.cqs_slots.proofs.Lists.{prefix-same, other-word, this-word, one-home}
 use Rattle.cqs_slots.proofs.Counted.{settled-here, settled-else}
 use Rattle.cqs_slots.proofs.Counts.{one-segment, not-spare}
+use Rattle.cqs_slots.proofs.Links.{link-stays}
 use Rattle.cqs_slots.proofs.Stays.{slot-stays, since-same}
 use Rattle.cqs_slots.proofs.Turns.{set-long}
 
@@ -56,6 +57,11 @@ module _ (n : ℕ) (t : Segments) (c d : ℕ → ℕ) (words : List ℕ) (show :
         (others (32 * q + i) (λ e. a (omega arith))) (old.since q i h less));
     resets = λ i a e k f more less. absurd (not-spare (t.slots x) s i a e seg f);
     reset_count = λ i a e f all. absurd (not-spare (t.slots x) s i a e seg f);
+    link = link-stays t.homes t.homes t.outs t.outs (last_id (t.slots x)) (last_id (t.slots x)) _ _
+        (prefix-same t.homes) (prefix-same t.outs) (omega arith)
+        (other-word words word (link_place x) z (λ e. omega arith)) old.link;
+    raised = λ m h. let e = other-word words word (link_place x) z (λ e. omega arith) in
+        let less = old.raised m h in omega arith;
   }
 
   -- the cell of this number is written
@@ -71,7 +77,7 @@ module _ (n : ℕ) (t : Segments) (c d : ℕ → ℕ) (words : List ℕ) (show :
         (λ q i h less. others (32 * q + i) (λ e. a (one-home t.homes s y x
         (subst (λ m. IsHome t.homes m y) (let p : q ≡ s = omega arith in p) h) home)))
         (λ q f. (sound.each y low).home q f)
-        (λ q h. h) (show.each y low));
+        (λ q h. h) (prefix-same t.homes) (prefix-same t.outs) (λ m h. h) (show.each y low));
   }
 
 -- where the number is one of a segment that is made

@@ -1,18 +1,18 @@
 -- The laws of slots: what each step on their words makes of the segments, what each load tells, and
 -- that a segment leaves no sooner than all its cells are settled.
-use Rattle.std.specs.Prelude.{◌≡◌, ◌≢◌, ℕ, ◌+◌, ◌*◌, ◌/◌, ◌^◌, ◌<◌, ◌≤◌, Bool, true, false, List, [], ◌∷◌, ◌++◌, length, slice_index, slice_set}
+use Rattle.std.specs.Prelude.{◌≡◌, ◌≢◌, ℕ, ◌+◌, ◌*◌, ◌/◌, ◌^◌, ◌<◌, ◌≤◌, max, Bool, true, false, List, [], ◌∷◌, ◌++◌, length, slice_index, slice_set}
 use Rattle.cqs_core.specs.Parts.{Has}
 use Rattle.cqs_words.specs.Cell.{index_in}
 use Rattle.cqs_words.specs.Head.{head_word}
 use Rattle.cqs_words.specs.Segment.{segment_word}
 use Rattle.cqs_slots.specs.declared.seen.Seen.{Seen}
-use Rattle.cqs_slots.specs.Layout.{tail_place, head_place, count_place, slot_cell, empty_word}
+use Rattle.cqs_slots.specs.Layout.{tail_place, head_place, link_place, count_place, slot_cell, empty_word}
 use Rattle.cqs_slots.specs.Lists.{IsDistinct}
 use Rattle.cqs_slots.specs.Slots.{Segments, free, spare, fresh, live, IsHome, IsSegment, changed, IsLater}
 use Rattle.cqs_slots.specs.Shown.{Shows, AreSound, AreCells, AreCounted, Becomes}
-use Rattle.cqs_slots.specs.Steps.{with_slot, with_tail, with_counted}
+use Rattle.cqs_slots.specs.Steps.{with_slot, with_tail, with_link, with_counted}
 use Rattle.cqs_slots.specs.Opened.{first_segments, OpensWith}
-use Rattle.cqs_slots.specs.Told.{Knows, all_seen, TailFound, HeadFound, CountFound}
+use Rattle.cqs_slots.specs.Told.{Knows, all_seen, TailFound, HeadFound, LinkFound, CountFound}
 
 -- the laws begin so: these words show these segments of n slots, which are sound
 abbrev OfShown : (ℕ → Segments → (ℕ → ℕ) → List ℕ → Type 0) → Type 0
@@ -79,6 +79,16 @@ FullSegmentsLeave = OfShown (λ n t c words.
     → slice_index words (head_place x) ≡ head_word s 2
     → Becomes n x t (with_slot t x (free s) (t.outs ++ s ∷ []) t.lit) c
     (slice_set words (head_place x) (head_word s 0)))
+
+-- A link is raised from a segment to one that was made, where all between them are out. The slot is
+-- or was the home of the first; what it names is the greater then of this and of what it named.
+abbrev pub LinksRise : Type 0
+LinksRise = OfShown (λ n t c words.
+    (s x m y : ℕ) → IsHome t.homes s x → IsHome t.homes m y
+    → ((q : ℕ) → s < q → q < m → Has q t.outs)
+    → Becomes n x t (with_link t x (segment_word m y)) c
+    (slice_set words (link_place x)
+    (max (slice_index words (link_place x)) (segment_word m y))))
 
 -- A cell that is to be counted is counted: its segment stands, and one duty for it is done.
 pub record IsCounted (n : ℕ) (t : Segments) (c : ℕ → ℕ) (words : List ℕ) (s x : ℕ) : Type 0 where
@@ -156,6 +166,12 @@ abbrev pub HeadsTell : Type 0
 HeadsTell = OfShown (λ n t c words.
     (v : Seen) (x : ℕ) → x < n → Knows t v
     → HeadFound x (slice_index words (head_place x)) v (all_seen t))
+
+-- a load of a link tells which segments it passes by
+abbrev pub LinksTell : Type 0
+LinksTell = OfShown (λ n t c words.
+    (v : Seen) (x : ℕ) → x < n → Knows t v
+    → LinkFound n x (slice_index words (link_place x)) v (all_seen t))
 
 -- and a load of a number of settled cells tells where it is that of all
 abbrev pub CountsTell : Type 0

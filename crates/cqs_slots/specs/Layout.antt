@@ -1,5 +1,5 @@
--- Which word of a table belongs to which slot. A slot has 48 words: its head; 8 words on the number
--- of its settled cells; and from the 16th word on its 32 cells.
+-- Which word of a table belongs to which slot. A slot has 48 words: its head, and its link in the
+-- same line; 8 words on the number of its settled cells; and from the 16th word on its 32 cells.
 use Rattle.std.specs.Prelude.{◌⊎◌, ℕ, ◌+◌, ◌*◌, ◌<◌, ◌≤◌}
 use Rattle.cqs_words.specs.Cell.{cell_word}
 
@@ -8,6 +8,9 @@ tail_place = 112
 
 abbrev pub head_place : ℕ → ℕ
 head_place x = 48 * x + 128
+
+abbrev pub link_place : ℕ → ℕ
+link_place x = 48 * x + 129
 
 abbrev pub count_place : ℕ → ℕ
 count_place x = 48 * x + 136

@@ -3,14 +3,26 @@ use Rattle.std.specs.Prelude.{◌≡◌, ◌≢◌, ◌⊎◌, ℕ, ◌+◌, ◌
 use Rattle.cqs_core.specs.Parts.{Has}
 use Rattle.cqs_words.specs.Cell.{index_in}
 use Rattle.cqs_words.specs.Segment.{segment_word}
-use Rattle.cqs_slots.specs.Layout.{tail_place, head_place, count_place, slot_cell, slot_words, empty_word}
-use Rattle.cqs_slots.specs.Slots.{Segments, Slot, spare, fresh, live, IsHome, IsSegment, slot_head, IsLast, last_id, settled_in, IsLater}
+use Rattle.cqs_slots.specs.Layout.{tail_place, head_place, link_place, count_place, slot_cell, slot_words, empty_word}
+use Rattle.cqs_slots.specs.Slots.{Segments, Slot, spare, fresh, live, IsHome, IsSegment, slot_head, IsLast, last_id, settled_in, IsLater, IsRaised}
 
 -- The word n in the home of a segment, where its cell k stood: that of this cell, or of one of a
 -- later segment there.
 pub record IsSince (c : ℕ → ℕ) (k n : ℕ) : Type 0 where
   pub later : k ≤ index_in n
   pub same : index_in n ≡ k → n ≡ c k
+
+-- The link of a slot whose last segment is this one is the word n: it names nothing, or a segment
+-- that was made in its slot; and all segments after that last one and before the named one are out.
+-- So the named one's id is at most the tail's, and where it isn't above the last one's the link
+-- says nothing.
+pub record IsLink (homes outs : List ℕ) (last n : ℕ) : Type 0 where
+  pub id : ℕ
+  pub slot : ℕ
+  pub word : n ≡ segment_word id slot
+  pub fits : slot < 2 ^ 16
+  pub named : IsHome homes id slot ⊎ (id ≡ 0)
+  pub passed : (s : ℕ) → last < s → s < id → Has s outs
 
 -- what the words of a slot say
 pub record SlotShows (t : Segments) (c : ℕ → ℕ) (words : List ℕ) (x : ℕ) (slot : Slot)
@@ -25,6 +37,8 @@ pub record SlotShows (t : Segments) (c : ℕ → ℕ) (words : List ℕ) (x : �
       → slice_index words (slot_cell x j) ≡ empty_word (32 * (a + 1) + j)
   pub reset_count : (i a d : ℕ) → slot ≡ spare i a d → 33 < d
       → slice_index words (count_place x) ≡ 0
+  pub link : IsLink t.homes t.outs (last_id slot) (slice_index words (link_place x))
+  pub raised : (word : ℕ) → IsRaised x word t.links → word ≤ slice_index words (link_place x)
 
 -- what holds of a slot
 pub record SlotSound (t : Segments) (x : ℕ) (slot : Slot) : Type 0 where

@@ -1,5 +1,5 @@
 -- Segments and their slots, as plain data.
-use Rattle.std.specs.Prelude.{◌≡◌, ◌⊎◌, ℕ, zero, suc, ◌+◌, ◌*◌, ◌≤◌, ◌==◌, Bool, List, slice_get, Some, if◌then◌else◌}
+use Rattle.std.specs.Prelude.{◌≡◌, ◌⊎◌, ℕ, zero, suc, ◌+◌, ◌*◌, ◌≤◌, ◌==◌, Bool, List, [], ◌∷◌, slice_get, Some, if◌then◌else◌}
 use Rattle.cqs_words.specs.Head.{head_word}
 use Rattle.cqs_core.specs.Parts.{IsPrefix}
 
@@ -13,14 +13,16 @@ pub data Slot : Type 0 where
   live : (segment : ℕ) → Slot
 
 -- What nobody's words show alone. Each list only grows: the home slots of the segments, in order;
--- the ids that the heads of these slots kept as the segments were made; which segments are out; and
--- whose cells are all counted. Each head of a segment below `lit` was made live.
+-- the ids that the heads of these slots kept as the segments were made; which segments are out;
+-- whose cells are all counted; and which links were raised, each slot with the word that its link
+-- is no less than since. Each head of a segment below `lit` was made live.
 pub record Segments : Type 0 where
   pub tail : ℕ
   pub homes : List ℕ
   pub kept : List ℕ
   pub outs : List ℕ
   pub full : List ℕ
+  pub links : List (ℕ × ℕ)
   pub lit : ℕ
   pub slots : ℕ → Slot
   pub counted : ℕ → ℕ
@@ -28,6 +30,11 @@ pub record Segments : Type 0 where
 -- the segment was made, and this is its home for good
 abbrev pub IsHome : List ℕ → ℕ → ℕ → Type 0
 IsHome homes s x = slice_get homes s ≡ Some x
+
+-- the link of the slot x was raised to this word
+abbrev pub IsRaised : ℕ → ℕ → List (ℕ × ℕ) → Type 0
+IsRaised x word [] = ⊥
+IsRaised x word (link ∷ links) = ((link.0 ≡ x) × (link.1 ≡ word)) ⊎ IsRaised x word links
 
 -- the slot is the home of the segment now
 abbrev pub IsSegment : Slot → ℕ → Type 0
@@ -78,4 +85,5 @@ pub record IsLater (t u : Segments) : Type 0 where
   pub kept : IsPrefix t.kept u.kept
   pub outs : IsPrefix t.outs u.outs
   pub full : IsPrefix t.full u.full
+  pub links : IsPrefix t.links u.links
   pub lit : t.lit ≤ u.lit

@@ -15,6 +15,10 @@ with_tail t x id = record t {
   slots = changed t.slots x (fresh (t.tail + 1) id);
 }
 
+-- the link of one slot is raised to this word
+abbrev pub with_link : Segments → ℕ → ℕ → Segments
+with_link t x word = record t { links = t.links ++ (x, word) ∷ [] }
+
 -- the segments whose cells are all counted, once one cell more of s is, of which m were
 abbrev pub fuller : List ℕ → ℕ → ℕ → List ℕ
 fuller full m s = full ++ (if m == 31 then s ∷ [] else [])

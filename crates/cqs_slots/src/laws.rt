@@ -2,7 +2,7 @@
 //!
 //! Each function does nothing: a law is proved where the contract of a function says it.
 
-ghost use Rattle.cqs_slots.specs.Laws.{CellsAreReset, CellsAreWritten, CellsOfLeftSegmentsAreSettled, ClaimedHeadsAreLit, CountsAreReset, CountsTell, DutiesAreDone, FirstSegmentsAreSound, FoundWordsAreLater, FreeSlotsAreClaimed, FullSegmentsLeave, HeadsTell, OpeningWordsShow, ResetsBegin, ResetSparesBecomeTheTail, SettledCellsAreDuties, SparesAreGivenBack, TailsTell, UnsettledCellsAreFew, UnsettledCellsStand, WordsBeforeShowNothing};
+ghost use Rattle.cqs_slots.specs.Laws.{CellsAreReset, CellsAreWritten, CellsOfLeftSegmentsAreSettled, ClaimedHeadsAreLit, CountsAreReset, CountsTell, DutiesAreDone, FirstSegmentsAreSound, FoundWordsAreLater, FreeSlotsAreClaimed, FullSegmentsLeave, HeadsTell, LinksRise, LinksTell, OpeningWordsShow, ResetsBegin, ResetSparesBecomeTheTail, SettledCellsAreDuties, SparesAreGivenBack, TailsTell, UnsettledCellsAreFew, UnsettledCellsStand, WordsBeforeShowNothing};
 
 /// Slots open with some segments made, each in the slot of its number, and no cell settled.
 pub fn slots_open()
@@ -36,6 +36,12 @@ pub fn reset_spares_become_the_tail()
 /// Whoever finds the head of the last segment claimed may make it live.
 pub fn claimed_heads_are_lit()
     ensures { ClaimedHeadsAreLit }
+{}
+
+/// Whoever knows that all segments between two are out may raise the link of the first one's slot
+/// to the second. The slot may be another segment's by then.
+pub fn links_are_raised()
+    ensures { LinksRise }
 {}
 
 /// Each settled cell is counted once: its pass has the duty from the settling step on.
@@ -74,9 +80,10 @@ pub fn cells_are_written()
     ensures before { WordsBeforeShowNothing }
 {}
 
-/// What the tail, a head and a number of settled cells tell the pass that loads them.
+/// What the tail, a head, a link and a number of settled cells tell the pass that loads them.
 pub fn loads_tell()
     ensures tail { TailsTell }
     ensures head { HeadsTell }
+    ensures link { LinksTell }
     ensures count { CountsTell }
 {}

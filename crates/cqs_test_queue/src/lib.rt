@@ -9,6 +9,8 @@ mod jumps;
 #[cfg(test)]
 mod line;
 #[cfg(test)]
+mod links;
+#[cfg(test)]
 mod packed_words;
 #[cfg(test)]
 mod queue_calls;

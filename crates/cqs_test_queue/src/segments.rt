@@ -3,7 +3,7 @@
 //! none is free.
 
 ghost use Rattle.std.specs.Prelude.{◌≡◌};
-ghost use Rattle.cqs_core.specs.declared.doings.Doing.TheVariants.{Idle};
+ghost use Rattle.cqs_core.specs.declared.doings.Doing.TheVariants.{Door, Idle};
 ghost use Rattle.cqs_rule.specs.Passes.{pass_view, IsOf};
 ghost use Rattle.cqs_rule.specs.Waits.{HasWait};
 
@@ -22,8 +22,8 @@ pub const CONFIG: Config = Config {
     slots: 9,
 };
 
-// Its slots are fewer than its segments and spare slots can be.
-const SCARCE: Config = Config {
+/// Its slots are fewer than its segments and spare slots can be.
+pub const SCARCE: Config = Config {
     passes: 1,
     limit: 4_000,
     slots: 4,
@@ -72,6 +72,17 @@ pub fn come(rt: &impl Abort, queue: &Queue<SemClient>, pass: &mut Pass<SemClient
 {
     assert!(rt; next_wait(queue, pass) < queue.limit());
     assert!(rt; take_permit(queue, pass).word == 4_294_967_296);
+    wait_in_line(rt, queue, pass)
+}
+
+/// From the door to a wait in line.
+pub fn wait_in_line(rt: &impl Abort, queue: &Queue<SemClient>, pass: &mut Pass<SemClient>) -> Wait
+    requires belongs { IsOf queue.now pass.old }
+    requires door { (pass_view pass.old).facts.doing ≡ Door }
+    ensures belongs { IsOf queue.now pass.new }
+    ensures idle { (pass_view pass.new).facts.doing ≡ Idle }
+    ensures waits { HasWait (pass_view pass.new) result }
+{
     let Ok(()) = queue.claim_spares(pass, 1) else {
         panic!(rt; "a slot is free");
     };

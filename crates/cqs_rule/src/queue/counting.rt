@@ -4,7 +4,7 @@
 ghost use Rattle.std.specs.Prelude.{◌≡◌, ◌/◌, ◌<◌, ◌^◌, [], ◌∷◌};
 ghost use Rattle.cqs_rule_laws.specs.Placed.{KnowsPlace, place_at};
 ghost use Rattle.cqs_rule.specs.Counting.{Counted};
-ghost use Rattle.cqs_segment.specs.Finds.{IsDoneWith};
+ghost use Rattle.cqs_segment.specs.Finds.{HasDone};
 ghost use Rattle.cqs_segment.specs.Walks.{IsWalker};
 ghost use Rattle.cqs_slots.specs.Slots.{IsHome};
 
@@ -44,6 +44,7 @@ impl<C: ClientWords> Queue<C> {
                 |seat, id|
                     requires table { seat.table_id ≡ self.now.table.shared.table_id }
                     requires walker { IsWalker self.now.table.shared.table_id.words seat.me.0 }
+                    requires all { self.now.segment_slots ≡ seat.me.0.slots }
                     requires low { slot < seat.me.0.slots }
                     requires small { id < 2 ^ 36 }
                     requires home { IsHome seat.me.0.segments.homes id slot }
@@ -65,15 +66,16 @@ impl<C: ClientWords> Queue<C> {
     ) -> (Seat<Option<C::Slot>, View<C::Entry, C::Slot>>, Retired)
         requires table { seat.table_id ≡ self.now.table.shared.table_id }
         requires walker { IsWalker self.now.table.shared.table_id.words seat.me.0 }
+        requires all { self.now.segment_slots ≡ seat.me.0.slots }
         requires low { slot < seat.me.0.slots }
         requires small { id < 2 ^ 36 }
         requires home { IsHome seat.me.0.segments.homes id slot }
         ensures table { result.0.table_id ≡ seat.table_id }
-        ensures retires { IsDoneWith slot id result.1 seat.me.0 result.0.me.0 }
+        ensures done { HasDone id seat.me.0 result.0.me.0 }
         ensures bare { result.0.me.1 ≡ seat.me.1 }
     {
         let mut seat = seat;
-        let retired = cqs_segment::retire::<C>(&self.table.shared, &mut seat, slot, id);
+        let retired = self.take_out_by(&mut seat, slot, id);
         (seat, retired)
     }
 }

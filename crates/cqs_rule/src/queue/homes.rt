@@ -2,11 +2,14 @@
 
 ghost use Rattle.std.specs.Prelude.{◌≡◌, IfSome};
 ghost use Rattle.cqs_rule_laws.specs.Placed.{KnowsPlace};
+ghost use Rattle.cqs_segment.specs.Links.{IsPlaced};
+ghost use Rattle.cqs_rule.specs.Homes.{KnowsHome};
 ghost use Rattle.cqs_rule.specs.Passes.{pass_view, IsOf};
 
 use crate::queue::{Pass, Queue};
-use cqs_rule_laws::{ClientWords, Place};
+use cqs_rule_laws::{CELLS_WORD, ClientWords, Place, SLOT_STRIDE};
 use cqs_segment::CELLS;
+use cqs_words::LinkWord;
 
 /// A segment, and the word of its first cell. What a pass knows of it is so for good.
 #[derive(Clone, Copy, Drop)]
@@ -40,17 +43,38 @@ impl<C: ClientWords> Pass<C> {
     pub fn kept_place(&self, index: u64) -> Option<Place>
         ensures { IfSome result (λ at. (at.index ≡ index) × KnowsPlace (pass_view self.now) at) }
     {
-        let home = if self.owes {
-            self.homes.resumed
-        } else {
-            self.homes.suspended
-        };
-        match home {
+        match self.kept_home() {
             Some(home) if home.id == index / CELLS => Some(Place {
                 word: home.first + (index % CELLS) as u32,
                 index,
             }),
             _ => None,
+        }
+    }
+
+    // Where the segment of the last such cell stood.
+    #[inline(always)]
+    fn kept_home(&self) -> Option<Home>
+        ensures { IfSome result (KnowsHome (pass_view self.now)) }
+    {
+        if self.owes {
+            self.homes.resumed
+        } else {
+            self.homes.suspended
+        }
+    }
+
+    /// That segment, with its slot, from which links may lead to the next. This is no step.
+    #[inline(always)]
+    pub(crate) fn kept_segment(&self) -> Option<LinkWord>
+        ensures { IfSome result (λ at. IsPlaced at (pass_view self.now)) }
+    {
+        match self.kept_home() {
+            Some(home) => Some(LinkWord {
+                id: home.id,
+                slot: (home.first - CELLS_WORD) / SLOT_STRIDE as u32,
+            }),
+            None => None,
         }
     }
 }

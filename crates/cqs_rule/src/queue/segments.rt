@@ -1,17 +1,18 @@
 //! The calls on segments, with a pass. Their bodies, by a seat, are those of `cqs_segment`.
 
-ghost use Rattle.std.specs.Prelude.{◌≡◌, ◌+◌, ◌*◌, ◌<◌, ◌≤◌, ◌^◌, [], length, OnErr, OnOk};
+ghost use Rattle.std.specs.Prelude.{◌≡◌, ◌+◌, ◌*◌, ◌<◌, ◌≤◌, ◌^◌, [], length, IfSome, OnErr, OnOk};
 ghost use mathlib.Core.Logic.{◌↔◌};
-ghost use Rattle.cqs_words.specs.Segment.{TailFits, packed_tail};
+ghost use Rattle.cqs_words.specs.Segment.{LinkFits, TailFits, packed_link, packed_tail};
 ghost use Rattle.cqs_slots.specs.Slots.{IsHome};
-ghost use Rattle.cqs_rule_laws.specs.SegmentSteps.{OwnStand};
+ghost use Rattle.cqs_rule_laws.specs.SegmentSteps.{LinkRaised, OwnStand};
 ghost use Rattle.cqs_slots.specs.Told.{TailFound};
-ghost use Rattle.cqs_segment.specs.Finds.{Finds, IsNear, Retires, SeesAhead};
+ghost use Rattle.cqs_segment.specs.Finds.{Finds, HasDone, IsNear, Retires, SeesAhead, TakesOut};
+ghost use Rattle.cqs_segment.specs.Links.{HaveLeftBetween, IsPlaced, Links};
 ghost use Rattle.cqs_segment.specs.Slots.{Confirms, SawAllTaken};
 ghost use Rattle.cqs_segment.specs.Walks.{IsWalker, LookedAt};
 ghost use Rattle.cqs_rule.specs.Claims.{IsClaimer};
 ghost use Rattle.cqs_rule.specs.Passes.{pass_view, IsOf};
-ghost use Rattle.cqs_rule.specs.Segments.{slot_count, spares_of, ExtendsLast, HasClaimed, HasExtended, HasGivenBack, HasLeft, HasPassed, HasStayed};
+ghost use Rattle.cqs_rule.specs.Segments.{as_link, slot_count, spares_of, ExtendsLast, IsLinkedTo, HasClaimed, HasExtended, HasGivenBack, HasLeft, HasPassed, HasStayed};
 
 use crate::queue::spares::Spares;
 use crate::queue::{Pass, Queue};
@@ -19,7 +20,7 @@ use atomic_table::Seat;
 use core::mem::replace_with;
 use cqs_rule_laws::{ClientWords, Crowded, View};
 use cqs_segment::{Extended, Found, Retired};
-use cqs_words::TailWord;
+use cqs_words::{LinkWord, TailWord};
 
 impl<C: ClientWords> Queue<C> {
     /// Claims a free slot. Crowded comes only where each slot was seen not free at a step of this
@@ -96,6 +97,7 @@ impl<C: ClientWords> Queue<C> {
         ensures own { OwnStand (pass_view pass.new) (pass_view pass.new) }
         ensures looked { LookedAt (slot_count pass.old) (pass_view pass.old) (pass_view pass.new) }
     {
+        let near = pass.kept_segment();
         replace_with(
             &mut pass.seat,
             id,
@@ -103,6 +105,7 @@ impl<C: ClientWords> Queue<C> {
                 requires table { seat.table_id ≡ self.now.table.shared.table_id }
                 requires walker { IsWalker self.now.table.shared.table_id.words seat.me.0 }
                 requires all { self.now.segment_slots ≡ seat.me.0.slots }
+                requires near { IfSome near (λ at. IsPlaced at seat.me.0) }
                 requires small { id < 2 ^ 36 }
                 ensures table { result.0.table_id ≡ seat.table_id }
                 ensures finds { Finds id result.1 result.0.me.0 }
@@ -110,7 +113,7 @@ impl<C: ClientWords> Queue<C> {
                 ensures own { OwnStand result.0.me.0 result.0.me.0 }
                 ensures looked { LookedAt self.entry.now.segment_slots seat.me.0 result.0.me.0 }
                 ensures bare { result.0.me.1 ≡ seat.me.1 }
-            { self.find_apart(seat, id) },
+            { self.find_apart(seat, near, id) },
         )
     }
 
@@ -121,11 +124,13 @@ impl<C: ClientWords> Queue<C> {
     fn find_apart(
         &self,
         seat: Seat<Option<C::Slot>, View<C::Entry, C::Slot>>,
+        near: Option<LinkWord>,
         id: u64,
     ) -> (Seat<Option<C::Slot>, View<C::Entry, C::Slot>>, Found)
         requires table { seat.table_id ≡ self.now.table.shared.table_id }
         requires walker { IsWalker self.now.table.shared.table_id.words seat.me.0 }
         requires all { self.now.segment_slots ≡ seat.me.0.slots }
+        requires near { IfSome near (λ at. IsPlaced at seat.me.0) }
         requires small { id < 2 ^ 36 }
         ensures table { result.0.table_id ≡ seat.table_id }
         ensures finds { Finds id result.1 result.0.me.0 }
@@ -135,19 +140,22 @@ impl<C: ClientWords> Queue<C> {
         ensures bare { result.0.me.1 ≡ seat.me.1 }
     {
         let mut seat = seat;
-        let found = cqs_segment::find::<C>(&self.table.shared, &mut seat, self.segment_slots, id);
+        let slots = self.segment_slots;
+        let found = cqs_segment::find::<C>(&self.table.shared, &mut seat, slots, near, id);
         (seat, found)
     }
 
     /// Makes the segment after this one in the slot that the pass claimed last, of those that it
-    /// has spare. This one isn't the last then, so it is taken out where all its cells are counted.
-    /// Where the tail is found to be another, that one is answered and the slot stays spare.
+    /// has spare. A link leads there from this one then; and this one isn't the last, so it is
+    /// taken out where all its cells are counted. Where the tail is found to be another, that one
+    /// is answered and the slot stays spare.
     pub fn extend(&self, pass: &mut Pass<C>, after: TailWord) -> Extended
         requires belongs { IsOf self.now pass.old }
         requires some { 0 < length (spares_of pass.old) }
         requires small { 32 * (after.id + 2) ≤ 2 ^ 40 }
         ensures belongs { IsOf self.now pass.new }
         ensures extended { HasExtended after result pass.old pass.new }
+        ensures linked { IsLinkedTo after result (pass_view pass.new) }
     {
         let (spares, extended) = self.extend_by(&mut pass.seat, pass.spares, after);
         pass.spares = spares;
@@ -168,13 +176,15 @@ impl<C: ClientWords> Queue<C> {
         ensures table { seat.new.table_id ≡ seat.old.table_id }
         ensures claimer { IsClaimer self.now result.0 seat.new.me.0 }
         ensures extended { ExtendsLast after result.1 seat.old.me.0 seat.new.me.0 }
+        ensures linked { IsLinkedTo after result.1 seat.new.me.0 }
         ensures bare { seat.new.me.1 ≡ seat.old.me.1 }
     {
         match spares.split_last() {
             Some((slot, others)) => {
                 let extended = cqs_segment::extend::<C>(&self.table.shared, seat, after, slot);
-                if let Extended::Made(_) = extended {
-                    cqs_segment::retire::<C>(&self.table.shared, seat, after.slot, after.id);
+                if let Extended::Made(made) = extended {
+                    self.link_by(seat, after, made);
+                    self.take_out_by(seat, after.slot, after.id);
                     return (others, extended);
                 }
                 (spares, extended)
@@ -183,8 +193,89 @@ impl<C: ClientWords> Queue<C> {
         }
     }
 
+    // A link leads from the last segment to the one that was made after it.
+    fn link_by(
+        &self,
+        seat: &mut Seat<Option<C::Slot>, View<C::Entry, C::Slot>>,
+        after: TailWord,
+        made: TailWord,
+    )
+        requires table { seat.old.table_id ≡ self.now.table.shared.table_id }
+        requires walker { IsWalker self.now.table.shared.table_id.words seat.old.me.0 }
+        requires next { made.id ≡ after.id + 1 }
+        requires fits { TailFits made }
+        requires from { IsPlaced (as_link after) seat.old.me.0 }
+        requires to { IsPlaced (as_link made) seat.old.me.0 }
+        ensures table { seat.new.table_id ≡ seat.old.table_id }
+        ensures raised { LinkRaised after.slot (packed_tail made) seat.old.me.0 seat.new.me.0 }
+        ensures bare { seat.new.me.1 ≡ seat.old.me.1 }
+    {
+        let from = LinkWord {
+            id: after.id,
+            slot: after.slot,
+        };
+        let to = LinkWord {
+            id: made.id,
+            slot: made.slot,
+        };
+        cqs_segment::pass_by::<C>(&self.table.shared, seat, from, to);
+    }
+
+    // Takes a segment out where its cells are counted and it isn't the last one. Where it left by
+    // this call, it is passed by.
+    pub(crate) fn take_out_by(
+        &self,
+        seat: &mut Seat<Option<C::Slot>, View<C::Entry, C::Slot>>,
+        slot: u32,
+        id: u64,
+    ) -> Retired
+        requires table { seat.old.table_id ≡ self.now.table.shared.table_id }
+        requires walker { IsWalker self.now.table.shared.table_id.words seat.old.me.0 }
+        requires all { self.now.segment_slots ≡ seat.old.me.0.slots }
+        requires low { slot < seat.old.me.0.slots }
+        requires small { id < 2 ^ 36 }
+        requires home { IsHome seat.old.me.0.segments.homes id slot }
+        ensures table { seat.new.table_id ≡ seat.old.table_id }
+        ensures takes { TakesOut slot id result seat.old.me.0 seat.new.me.0 }
+        ensures done { HasDone id seat.old.me.0 seat.new.me.0 }
+        ensures bare { seat.new.me.1 ≡ seat.old.me.1 }
+    {
+        cqs_segment::take_out::<C>(&self.table.shared, seat, self.segment_slots, slot, id)
+    }
+
+    /// The segment that the link of this one's slot names: one load. None comes exactly where the
+    /// loaded id isn't above that of this segment. After Some all segments between the two were
+    /// taken out, unless this one was.
+    pub fn next_of(&self, pass: &mut Pass<C>, slot: u32, id: u64) -> Option<LinkWord>
+        requires belongs { IsOf self.now pass.old }
+        requires low { slot < slot_count pass.old }
+        requires home { IsHome (pass_view pass.old).segments.homes id slot }
+        ensures belongs { IsOf self.now pass.new }
+        ensures next { Links slot id result (pass_view pass.old) (pass_view pass.new) }
+        ensures stayed { HasStayed pass.old pass.new }
+    {
+        cqs_segment::next_of::<C>(&self.table.shared, &mut pass.seat, slot, id)
+    }
+
+    /// Raises the link of a segment's slot to a later segment, where all between them were taken
+    /// out. It names that one then, or one that is later still. The slot may be another's by now,
+    /// and then the link names nothing.
+    pub fn pass_by(&self, pass: &mut Pass<C>, from: LinkWord, to: LinkWord)
+        requires belongs { IsOf self.now pass.old }
+        requires order { from.id < to.id }
+        requires fits { LinkFits to }
+        requires from { IsPlaced from (pass_view pass.old) }
+        requires to { IsPlaced to (pass_view pass.old) }
+        requires between { HaveLeftBetween from.id to.id (pass_view pass.old) }
+        ensures belongs { IsOf self.now pass.new }
+        ensures raised { LinkRaised from.slot (packed_link to) (pass_view pass.old)
+            (pass_view pass.new) }
+    {
+        cqs_segment::pass_by::<C>(&self.table.shared, &mut pass.seat, from, to);
+    }
+
     /// Takes a segment out where its 32 cells are counted and it isn't the last one. The slot is,
-    /// or was, its home.
+    /// or was, its home. It isn't passed by.
     pub fn retire(&self, pass: &mut Pass<C>, slot: u32, id: u64) -> Retired
         requires belongs { IsOf self.now pass.old }
         requires low { slot < slot_count pass.old }

@@ -1,4 +1,5 @@
 use Rattle.cqs_slots.proofs.Joined.{tail-tells, counts-tell}
+use Rattle.cqs_slots.proofs.Linked.{links-tell}
 use Rattle.cqs_slots.proofs.Loads.{head-found}
 use Rattle.cqs_slots.proofs.laws.loads_tell.Goals as goal
 
@@ -7,6 +8,9 @@ returns-clause-tail c = tail-tells
 
 pub returns-clause-head : goal.returns-clause-head
 returns-clause-head c = head-found
+
+pub returns-clause-link : goal.returns-clause-link
+returns-clause-link c = links-tell
 
 pub returns-clause-count : goal.returns-clause-count
 returns-clause-count c = counts-tell

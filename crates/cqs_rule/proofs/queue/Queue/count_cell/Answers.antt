@@ -1,7 +1,7 @@
-use Rattle.std.proofs.Common.{◌-◌, ◌/◌, ◌∙◌, rules}
+use Rattle.std.proofs.Common.{◌/◌, ◌∙◌, rules}
 use Rattle.cqs_rule_laws.specs.SegmentSteps.{retiring_too}
 use Rattle.cqs_rule_laws.proofs.Places.{home-of-cell}
-use Rattle.cqs_rule.proofs.Counting.{all-counted, counted-last, counted-one, fewer-counted, home-then, last-of-one, low-then}
+use Rattle.cqs_rule.proofs.Counting.{all-counted, all-then, counted-last, counted-one, fewer-counted, home-then, last-of-one, low-then}
 use Rattle.cqs_rule.proofs.queue.Queue.count_cell.Goals as goal
 
 pub overflow_sub-slot : goal.overflow_sub-slot
@@ -29,10 +29,18 @@ replace_with-requires g c =
       (
         search rules,
         (
-          low-then too c.count_settled-counted.new.seat.me.0 _ _ _ _ all cell.1,
+          all-then too c.count_settled-counted.new.seat.me.0 _ _ _ _ _ all
+              (record {
+                one = c.requires.walker.one;
+                wide = c.requires.walker.wide;
+                few = c.requires.walker.few;
+              }) c.args.self.now.slots_are,
           (
-            search rules,
-            home-then too c.count_settled-counted.new.seat.me.0 _ _ _ _ _ all cell.2,
+            low-then too c.count_settled-counted.new.seat.me.0 _ _ _ _ all cell.1,
+            (
+              search rules,
+              home-then too c.count_settled-counted.new.seat.me.0 _ _ _ _ _ all cell.2,
+            ),
           ),
         ),
       ),
@@ -42,7 +50,7 @@ pub returns-then-from-eq-CELLS-clause-counted : goal.returns-then-from-eq-CELLS-
 returns-then-from-eq-CELLS-clause-counted g c =
     let n = c.count_settled-counted.ensures in
     counted-last c.args.seat.now.me.0 c.count_settled-counted.new.seat.me.0 c.replace_with.new.dest.me.0
-    ((c.args.word - 144) / 48) (c.args.number / 32) c.replace_with.result c.requires.one c.requires.none
+    (c.args.number / 32) c.requires.one c.requires.none
     (n.counted.all (all-counted c.if-from-eq-CELLS.true c.from.ensures))
     (n.all.0 (all-counted c.if-from-eq-CELLS.true c.from.ensures)) (search rules)
 

@@ -7,7 +7,7 @@ pub replace_with-requires : goal.replace_with-requires
 replace_with-requires g c =
     let walker = walks c.args.self.now c.args.pass.now c.requires.belongs in
     let all = all-slots c.args.self.now c.args.pass.now c.requires.belongs in
-    (c.requires.belongs.table, (walker, (all, c.requires.small)))
+    (c.requires.belongs.table, (walker, (all, (c.kept_segment-near.ensures, c.requires.small))))
 
 pub invariant_of-pass : goal.invariant_of-pass
 invariant_of-pass g c =

@@ -1,6 +1,6 @@
 use Rattle.std.proofs.Common.{arith}
 use Rattle.cqs_rule.proofs.Extends.{claimed-extends}
-use Rattle.cqs_test_queue.proofs.segments.come.Goals as goal
+use Rattle.cqs_test_queue.proofs.segments.wait_in_line.Goals as goal
 
 pub suspend-requires-clause-spare : goal.suspend-requires-clause-spare
 suspend-requires-clause-spare g c =

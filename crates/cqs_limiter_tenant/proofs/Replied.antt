@@ -6,6 +6,7 @@ use Rattle.cqs_core.specs.declared.calls.Reply.TheVariants as reply
 use Rattle.cqs_core.specs.declared.entries.Entry.{Entry}
 use Rattle.cqs_core.specs.declared.entries.Entry.TheVariants as entry
 use Rattle.cqs_core.specs.QueueLine.{Waiting as Waiter}
+use Rattle.cqs_core.specs.SemaphoreEntries.{at_door}
 use Rattle.cqs_core.specs.SemaphoreObject.{Semaphore}
 use Rattle.cqs_core.specs.SoleCaller.{Told, sole_call, tells}
 use Rattle.cqs_rule_laws.specs.declared.config.Place.{Place as At}
@@ -18,6 +19,7 @@ use Rattle.cqs_rule_laws.proofs.Places.{goes-same, known-still}
 use Rattle.cqs_semaphore.specs.Alone.{IsFirstOf}
 use Rattle.cqs_semaphore.specs.Calls.{IsMine, plain_after}
 use Rattle.cqs_semaphore.specs.Causes.{drawn_in}
+use Rattle.cqs_semaphore.proofs.States.{entered-next, entered-way}
 use Rattle.cqs_limiter_requests.specs.declared.asks.Answer.TheVariants as answer
 use Rattle.cqs_limiter_requests.specs.declared.asks.Ask.TheVariants.{Enter, Look, Quit, Leave}
 use Rattle.cqs_limiter_requests.specs.declared.asks.Line.{Line}
@@ -138,11 +140,12 @@ module _ (x y : Tenant) (line : Line) (kept : IsKept x) (mine : IsMine y.semapho
           told = subst (λ p. sole_call (plain_after (view_of x)) (call.Acquire p)
               ≡ tells (entry.TakeDoor p ∷ entry.Enter p at.index ∷ []) (reply.Later at.index)) kept.number plain;
           place = refl;
-          still = kept.still;
+          still = entered-way (at_door (plain_after (view_of x)) 0) 0 at.index ∙ kept.still;
           few = let one : draws line.ask ≡ 1 = ap draws asks in omega (arith, one);
         }) seated
         (record {
-          drawn = λ k has. below k (has_append k waits (at.index ∷ []) has);
+          drawn = λ k has. subst (λ n. k < n) (sym (entered-next (at_door (plain_after (view_of x)) 0) 0 at.index))
+              (below k (has_append k waits (at.index ∷ []) has));
           others = λ i other far was. has-more other.index waits (at.index ∷ []) (kept.waits i other was).0;
           own = λ other is. subst (λ (a : At). Has a.index (waits ++ at.index ∷ []) × KnowsPlace (view_of y) a)
               (one at other is) (has-last at.index waits, knows);

@@ -4,7 +4,6 @@ use Rattle.cqs_core.specs.declared.doings.Doing.TheVariants as doing
 use Rattle.cqs_core.specs.declared.entries.Entry.{Entry}
 use Rattle.cqs_core.specs.declared.entries.Entry.TheVariants as entry
 use Rattle.cqs_core.specs.QueueSteps.{draws}
-use Rattle.cqs_core.specs.SemaphoreEntries.{IsLegal}
 use Rattle.cqs_rule_laws.specs.declared.view.Facts.{Facts}
 use Rattle.cqs_rule_laws.specs.declared.view.Has.{Has as OwnHas}
 use Rattle.cqs_rule_laws.specs.declared.view.Sighting.TheVariants.{Word}
@@ -20,6 +19,7 @@ use Rattle.cqs_rule_laws.specs.Lists.{Has, IsPrefix}
 use Rattle.cqs_rule_laws.specs.Saw.{Saw}
 use Rattle.cqs_rule_laws.specs.SegmentSteps.{facts_left}
 use Rattle.cqs_rule.specs.Claims.{Claimed, Crowds, HasSpares}
+use Rattle.cqs_semaphore_client.specs.PlainHistories.{IsPlainHistory}
 use Rattle.cqs_semaphore_client.specs.Semaphore.{semaphore_object, takes_one}
 use Rattle.cqs_semaphore_client.specs.SemaphoreSteps.{NextIs, OnState}
 use Rattle.cqs_rule.specs.Waits.{place_of}
@@ -229,7 +229,7 @@ module _ {T : Type 0} where
   }
 
   pub waits-called : (v x w : View Entry T) (a : Acquired) → Came false v x → WaitsInLine x a w
-      → Has v.number v.own → IsLegal w.opening.size w.seen
+      → Has v.number v.own → IsPlainHistory w.opening.size w.seen
       → CallRule v (acquired_entries v.number (Ok a)) (acquired_further (Ok a)) w
   waits-called v x w (Now permit) c e own legal =
       let k = e.0 in

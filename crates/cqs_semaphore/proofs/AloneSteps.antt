@@ -21,8 +21,8 @@ use Rattle.cqs_core.specs.Numbered.{pick_each, cons_option}
 use Rattle.cqs_core.specs.QueueLine.{Waiting, line, in_line}
 use Rattle.cqs_core.specs.QueueState.{Queue}
 use Rattle.cqs_core.specs.Resting.{IsIdle}
-use Rattle.cqs_core.specs.SemaphoreEntries.{object_after, after_entry, IsLegal, IsAllowed, Waits, find_wait}
-use Rattle.cqs_core.specs.SemaphoreObject.{Semaphore, due, opening}
+use Rattle.cqs_core.specs.SemaphoreEntries.{object_after, after_entry, at_door, IsLegal, IsAllowed, Waits, find_wait}
+use Rattle.cqs_core.specs.SemaphoreObject.{Semaphore, due, early, opening}
 use Rattle.cqs_core.specs.SemaphoreShown.{IsCore}
 use Rattle.cqs_core.specs.SemaphoreTable.{Shape}
 use Rattle.cqs_core.specs.SoleCaller.{tells, sole_call, sole_release, sole_poll, sole_cancel}
@@ -49,6 +49,7 @@ use Rattle.cqs_semaphore.specs.Calls.{CallRule, plain_after}
 use Rattle.cqs_semaphore.specs.Causes.{primitive_of, CellWas}
 use Rattle.cqs_semaphore.specs.Entries.{took_entries, came_by, acquired_entries, acquired_further, gave_entries, resumed_further, passed_further}
 use Rattle.cqs_semaphore.specs.Permits.{number_of}
+use Rattle.cqs_semaphore.proofs.States.{entered-way}
 
 -- an entry of a legal history may come after those before it
 allowed-at : (size : ℕ) (h mid rest all : List Entry) (e : Entry) → all ≡ h ++ (mid ++ e ∷ rest) → IsLegal size all
@@ -66,10 +67,11 @@ allowed-at size h mid rest all e is legal =
     subst (λ (o : Semaphore). IsAllowed o e)
     (ap (fold after_entry (opening size)) before ∙ fold-append after_entry (opening size) h mid) here
 
--- nothing is on its way, and nobody is at the door
+-- nothing is on its way, nobody is at the door, and no number is broken
 pub record IsQuiet (o : Semaphore) : Type 0 where
   pub door : length o.door ≡ 0
   pub way : o.way ≡ 0
+  pub whole : early o ≡ 0
 
 -- nobody is found under a number at which nothing is read
 find-nobody : (passes : List Doing) (m k : ℕ) (cells : List CoreCell)
@@ -131,7 +133,7 @@ module _ {T : Type 0} where
   quiet-alone : (v : View Entry T) → IsAlone primitive_of v → v.facts.doing ≡ doing.Idle → IsQuiet (plain_after v)
   quiet-alone v a idle =
       let s : Shape = core_shown (permits_of a.client) a.hidden a.words v.seen in
-      let core : IsCore s = a.shown in
+      let core : IsCore s = a.shown.core in
       let q = a.hidden.queue in
       let rests : IsIdle q.doing = record { at = λ p d there. idle-at p d there } in
       let same : object_after (permits_of a.client) v.seen ≡ plain_after v =
@@ -141,7 +143,8 @@ module _ {T : Type 0} where
       let still = none-going q core.sound rests within in
       let on_way = shows.way in
       let nobody = ap (λ l. length l) (shows.door ∙ nobody-at_door q core.sound rests) in
-      subst IsQuiet same (record { door = nobody; way = omega arith })
+      let whole = ap (λ (o : Semaphore). early o) core.object in
+      subst IsQuiet same (record { door = nobody; way = omega arith; whole = whole })
     where
       idle-at : (p : ℕ) (d : Doing) → slice_get a.hidden.queue.doing p ≡ Some d → d ≡ doing.Idle
       idle-at p d there = dite (ℕ_discrete p v.number)
@@ -169,7 +172,7 @@ module _ {T : Type 0} where
   legal-alone v w own further c alone = record {
     seen = c.called.seen ∙ ap (λ l. v.seen ++ l) (c.called.sole alone);
     opening_is = c.called.same.opening;
-    legal = subst (λ (o : Opening). IsLegal o.size w.seen) c.called.same.opening c.legal;
+    legal = subst (λ (o : Opening). IsLegal o.size w.seen) c.called.same.opening c.legal.legal;
   }
 
   -- an acquire
@@ -184,7 +187,8 @@ module _ {T : Type 0} where
       let may = allowed-at v.opening.size v.seen (entry.TakeDoor v.number ∷ entry.Enter v.number k ∷ []) [] w.seen
       (entry.Deliver k) l.seen l.legal in
       let o = fold after_entry (plain_after v) (entry.TakeDoor v.number ∷ entry.Enter v.number k ∷ []) in
-      absurd (in-none _ (subst (λ n. Waits k may.0 (take n o.line)) still.way may.1))
+      let none = entered-way (at_door (plain_after v) v.number) v.number k ∙ still.way in
+      absurd (in-none _ (subst (λ n. Waits k may.0 (take n o.line)) none may.1))
 
   plain-later : (v w : View Entry T) (k : ℕ) → Legal v (took_entries v.number (Some k) ++ []) w
       → sole_call (plain_after v) (call.Acquire v.number) ≡ tells (took_entries v.number (Some k)) (reply.Later k)
@@ -227,6 +231,7 @@ module _ {T : Type 0} where
       let may = allowed-at v.opening.size v.seen [] [] w.seen (entry.GiveFreed v.number) l.seen l.legal in
       let enough : (plain_after v).way ≡ due (plain_after v) = may.1 in
       let way = still.way in
+      let whole = still.whole in
       by (plain_after v).line refl (omega arith)
     where
       by : (waits : List Waiting) → (plain_after v).line ≡ waits → length (plain_after v).line ≡ 0
@@ -353,7 +358,7 @@ module _ {T : Type 0} where
       let opens : (primitive_of was.client).opening ≡ v.opening = was.opening_is ∙ l.opening_is in
       let same : object_after (permits_of was.client) c.was.before ≡ plain_after v =
       (λ i. object_after (opens i).size (here i)) in
-      let shows = shows-object s was.shown in
+      let shows = shows-object s was.shown.core in
       ap (λ (o : Semaphore). find_wait k o.line) (sym same)
       ∙ (ap (find_wait k) shows.line ∙ served-gone was.hidden.queue k was.holds.0)
 

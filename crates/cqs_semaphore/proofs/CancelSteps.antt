@@ -4,7 +4,7 @@ use Rattle.cqs_core.specs.declared.cells.CoreState.TheVariants as state
 use Rattle.cqs_core.specs.declared.doings.Doing.TheVariants as doing
 use Rattle.cqs_core.specs.declared.entries.Entry.{Entry}
 use Rattle.cqs_core.specs.declared.entries.Entry.TheVariants as entry
-use Rattle.cqs_core.specs.SemaphoreEntries.{IsLegal, object_after}
+use Rattle.cqs_core.specs.SemaphoreEntries.{object_after}
 use Rattle.cqs_core.specs.SemaphoreShown.{state_of}
 use Rattle.cqs_core.specs.QueueSteps.{settles_owing}
 use Rattle.cqs_core.proofs.CoreFacts.{shows-object}
@@ -19,6 +19,7 @@ use Rattle.cqs_rule_laws.specs.Events.{HasWord}
 use Rattle.cqs_rule_laws.specs.Lists.{Has, without}
 use Rattle.cqs_rule_laws.specs.Ruled.{number_at}
 use Rattle.cqs_rule_laws.specs.Saw.{WasShown}
+use Rattle.cqs_semaphore_client.specs.PlainHistories.{IsPlainHistory}
 use Rattle.cqs_semaphore_client.specs.Semaphore.{semaphore_object, decides, core_shown}
 use Rattle.cqs_semaphore_client.specs.SemaphorePermits.{permits_of}
 use Rattle.cqs_rule_laws.proofs.Calls.{called-and}
@@ -70,7 +71,7 @@ module _ {T : Type 0} where
       → WasShown {S = T} primitive_of opening (HasWord 0 n) history
       → count_in n ≡ state_of (object_after opening.size history)
   state-at opening n history was =
-      let shows = shows-object (core_shown (permits_of was.client) was.hidden was.words history) was.shown in
+      let shows = shows-object (core_shown (permits_of was.client) was.hidden was.words history) was.shown.core in
       ap count_in (sym was.holds)
       ∙ (shows.state ∙ ap (λ (o : Opening). state_of (object_after o.size history)) was.opening_is)
 
@@ -120,7 +121,7 @@ module _ {T : Type 0} where
     found = state-later v u w l.count l.before (entry.Leave v.number k ∷ []) l.found on.seen on.found on.opening;
   }
 
-  pub gone : (k : ℕ) (v w : View Entry T) → IsReady v.facts → Has v.number v.own → IsLegal w.opening.size w.seen
+  pub gone : (k : ℕ) (v w : View Entry T) → IsReady v.facts → Has v.number v.own → IsPlainHistory w.opening.size w.seen
       → cancel.Cancels semaphore_object primitive_of asked_so k v Gone w → HasCancelled k v (Cancelled None) w
   gone k v w ready own legal b =
       let o = out-gone semaphore_object primitive_of 0 decides left_entries asks k b.word v w b.ends in (
@@ -141,7 +142,8 @@ module _ {T : Type 0} where
       )
 
   pub gone-owing : (k payload : ℕ) (v u w : View Entry T) (under : Option Under) → IsReady v.facts → Has v.number v.own
-      → IsLegal w.opening.size w.seen → cancel.Cancels semaphore_object primitive_of asked_so k v (GoneOwing payload) u
+      → IsPlainHistory w.opening.size w.seen
+      → cancel.Cancels semaphore_object primitive_of asked_so k v (GoneOwing payload) u
       → PassedOn payload u under w → HasCancelled k v (Cancelled under) w
   gone-owing k payload v u w under ready own legal b p =
       let released = p.0 in
@@ -179,7 +181,8 @@ module _ {T : Type 0} where
       )
 
   pub late : (k payload : ℕ) (v w : View Entry T) (permit : Permit) → IsReady v.facts → Has v.number v.own
-      → IsLegal w.opening.size w.seen → cancel.Cancels semaphore_object primitive_of asked_so k v (Late payload) w
+      → IsPlainHistory w.opening.size w.seen
+      → cancel.Cancels semaphore_object primitive_of asked_so k v (Late payload) w
       → number_of permit ≡ Some k → HasCancelled k v (TooLate permit) w
   late k payload v w permit ready own legal l number = (
     None,

@@ -3,7 +3,6 @@ use Rattle.std.proofs.Common.{◌≡◌, ℕ, ◌-◌, Bool, true, false, List, 
 use Rattle.cqs_core.specs.declared.doings.Doing.TheVariants as doing
 use Rattle.cqs_core.specs.declared.entries.Entry.{Entry}
 use Rattle.cqs_core.specs.declared.entries.Entry.TheVariants as entry
-use Rattle.cqs_core.specs.SemaphoreEntries.{IsLegal}
 use Rattle.cqs_core.specs.SemaphoreNames.{entry_names}
 use Rattle.cqs_rule_laws.specs.declared.view.Facts.{Facts}
 use Rattle.cqs_rule_laws.specs.declared.view.Spare.{Spare}
@@ -17,6 +16,7 @@ use Rattle.cqs_rule_laws.specs.Layout.{client_place}
 use Rattle.cqs_rule_laws.specs.Lists.{Has}
 use Rattle.cqs_rule_laws.specs.Saw.{Saw}
 use Rattle.cqs_rule_laws.specs.SegmentSteps.{facts_left}
+use Rattle.cqs_semaphore_client.specs.PlainHistories.{IsPlainHistory}
 use Rattle.cqs_semaphore_client.specs.Semaphore.{semaphore_object, gives_one}
 use Rattle.cqs_semaphore_client.specs.SemaphoreSteps.{OnState}
 use Rattle.cqs_rule_laws.proofs.Calls.{called-by, called-and, saw-then}
@@ -181,7 +181,7 @@ module _ {T : Type 0} where
       (subst (λ z. HasEnded ticket payload u z w) e.1 e))
 
   pub released-rule : (v u w : View Entry T) (n : ℕ) (ticket : Option ℕ) (payload : ℕ) (a : Released)
-      → GaveBy true n v u → HasEnded ticket payload u a w → Has v.number v.own → IsLegal w.opening.size w.seen
+      → GaveBy true n v u → HasEnded ticket payload u a w → Has v.number v.own → IsPlainHistory w.opening.size w.seen
       → CallRule v (gave_entries v.number a) (resumed_further a) w
   released-rule v u w n ticket payload a g e own legal =
       let r = as_released e.0 in
@@ -194,7 +194,7 @@ module _ {T : Type 0} where
 
   -- the end of one that was handed back
   pub ends-rule : (v w : View Entry T) (ticket : Option ℕ) (payload : ℕ) (a : Released) → HasEnded ticket payload v a w
-      → Has v.number v.own → IsLegal w.opening.size w.seen → CallRule v [] (resumed_further a) w
+      → Has v.number v.own → IsPlainHistory w.opening.size w.seen → CallRule v [] (resumed_further a) w
   ends-rule v w ticket payload a e own legal =
       let r = as_released e.0 in
       subst (λ z. CallRule v [] (resumed_further z) w) (sym e.1)

@@ -9,9 +9,10 @@ use Rattle.std.proofs.lemmas.List.Sums.{sum_by-cons}
 use Rattle.cqs_core.specs.Keyed.{without}
 use Rattle.cqs_core.specs.declared.entries.Entry.{Entry}
 use Rattle.cqs_core.specs.declared.entries.Entry.TheVariants as entry
-use Rattle.cqs_core.specs.SemaphoreEntries.{object_after, after_entry, turned_back}
+use Rattle.cqs_core.specs.SemaphoreEntries.{object_after, after_entry, turned_back, has_spoiled}
 use Rattle.cqs_core.specs.SemaphoreObject.{Semaphore, due, opening}
 use Rattle.cqs_core.specs.SemaphoreShown.{state_of}
+use Rattle.cqs_core.proofs.Waits.{enters_by}
 use Rattle.cqs_rule_laws.specs.declared.view.Facts.{Facts}
 use Rattle.cqs_rule_laws.specs.declared.view.Opening.{Opening}
 use Rattle.cqs_rule_laws.specs.declared.view.Sighting.{Sighting}
@@ -29,7 +30,6 @@ use Rattle.cqs_semaphore_client.specs.SemaphoreSteps.{NextIs, OnState}
 use Rattle.cqs_words.specs.State.{count_in, is_above_zero, is_below_zero}
 use Rattle.cqs_semaphore.specs.Causes.{is_enter, drawn_in, StateWas, FoundJust, state_after}
 
--- an entry draws a number exactly where it is an Enter
 turned-next : (o : Semaphore) → (turned_back o).next ≡ o.next
 turned-next o = by (nat_lt (due o) o.way) refl
   where
@@ -37,15 +37,33 @@ turned-next o = by (nat_lt (due o) o.way) refl
     by true is = rw is refl
     by false is = rw is refl
 
+-- who enters draws a number, and changes nothing of what is on its way, whether the number is broken or not
+pub entered-next : (o : Semaphore) (c k : ℕ) → (after_entry o (entry.Enter c k)).next ≡ o.next + 1
+entered-next o c k = by (has_spoiled k o.spoiled)
+  where
+    by : (b : Bool) → (enters_by o c k b).next ≡ o.next + 1
+    by true = refl
+    by false = refl
+
+pub entered-way : (o : Semaphore) (c k : ℕ) → (after_entry o (entry.Enter c k)).way ≡ o.way
+entered-way o c k = by (has_spoiled k o.spoiled)
+  where
+    by : (b : Bool) → (enters_by o c k b).way ≡ o.way
+    by true = refl
+    by false = refl
+
+-- an entry draws a number exactly where it is an Enter
 step-next : (o : Semaphore) (e : Entry) → (after_entry o e).next ≡ o.next + cond (is_enter e) 1 0
 step-next o (entry.TakeNow c) = omega arith
 step-next o (entry.TakeDoor c) = omega arith
-step-next o (entry.Enter c k) = refl
+step-next o (entry.Enter c k) = entered-next o c k
 step-next o (entry.TryGot c) = omega arith
 step-next o (entry.TryBusy c) = omega arith
 step-next o (entry.GiveFreed c) = omega arith
 step-next o (entry.GiveSent c) = omega arith
 step-next o (entry.Deliver k) = omega arith
+step-next o (entry.Spoil c k) = omega arith
+step-next o (entry.Undo c k) = omega arith
 step-next o (entry.Leave c k) =
     let same = turned-next (record o { line = without (λ w. w.wait) k o.line }) in omega arith
 step-next o (entry.Late c k) = omega arith

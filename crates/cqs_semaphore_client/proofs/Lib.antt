@@ -1,3 +1,4 @@
+pub mod Unbroken
 pub mod LowLine
 pub mod StateWords
 pub mod SemaphoreMoves

@@ -40,6 +40,8 @@ use Rattle.cqs_rule_laws.proofs.Held.{held-is, held-set, held-kept}
 use Rattle.cqs_rule.proofs.Ticketless.{no-ticket, if-ticketless}
 use Rattle.cqs_semaphore_client.proofs.LowLine.{state-above-line}
 use Rattle.cqs_words.specs.State.{count_in, is_above_zero, is_below_zero}
+use Rattle.cqs_semaphore_client.specs.UnbrokenSteps.{unbroken-more, unbroken-same}
+use Rattle.cqs_semaphore_client.proofs.Unbroken.{unbroken-if}
 use Rattle.cqs_semaphore_client.proofs.StateWords.{above-lowest, found-loaded, found-other, loaded-free, some-word, state-busy, state-enough, state-free, state-less, state-more, state-none, state-short, state-some, word-above, written}
 
 module _ (permits p : ℕ) (facts : Facts) (c : Hidden) (words : List ℕ) (log : List Entry)
@@ -55,6 +57,7 @@ module _ (permits p : ℕ) (facts : Facts) (c : Hidden) (words : List ℕ) (log 
   -- the core with this history, this state, this much held and these doings
   abbrev With : List Entry → ℤ → List ℕ → List Doing → Shape
   With history z held doings = record {
+    sync = false;
     permits = permits;
     state = z;
     held = held;
@@ -324,8 +327,13 @@ pub take-moves : {T : Type 0} (permits p : ℕ) (facts : Facts) → facts.doing 
     → Moves semaphore_object (semaphore_primitive {T = T} permits) takes_one in_any_case p facts 0
     (word_plus (negsuc 0))
 take-moves permits p facts idle may = record {
-  step = λ c words log handed core does has short small.
-      take-core permits p facts c words log core does has short idle small;
+  step = λ c words log handed shown does has short small.
+      record {
+        core = take-core permits p facts c words log shown.core does has short idle small;
+        unbroken = unbroken-if (is_above_zero (slice_index words 0)) log (entry.TakeNow p ∷ []) (entry.TakeDoor p ∷ [])
+            (unbroken-more log (entry.TakeNow p) tt shown.unbroken)
+            (unbroken-more log (entry.TakeDoor p) tt shown.unbroken);
+      };
   silent = λ n. take-silent p (is_above_zero n);
   door = λ n q. inr may;
   ticket = λ n j q. absurd (no-ticket _ (if-ticketless (is_above_zero n) doing.Idle doing.Door tt tt) j q);
@@ -339,8 +347,12 @@ take-moves permits p facts idle may = record {
 pub try-load-moves : {T : Type 0} (permits p : ℕ) (facts : Facts) → facts.doing ≡ doing.Idle
     → Moves semaphore_object (semaphore_primitive {T = T} permits) loads_to_try in_any_case p facts 0 (λ n. n)
 try-load-moves permits p facts idle = record {
-  step = λ c words log handed core does has short small.
-      try-load-core permits p facts c words log core does has short idle;
+  step = λ c words log handed shown does has short small.
+      record {
+        core = try-load-core permits p facts c words log shown.core does has short idle;
+        unbroken = unbroken-if (is_above_zero (slice_index words 0)) log [] (entry.TryBusy p ∷ [])
+            (unbroken-same log shown.unbroken) (unbroken-more log (entry.TryBusy p) tt shown.unbroken);
+      };
   silent = λ n. try-load-silent p (is_above_zero n);
   door = λ n q. absurd (no-door (is_above_zero n) (count_in n) q);
   ticket = λ n j q. absurd (no-ticket _ (if-ticketless (is_above_zero n) (doing.TryAt (count_in n)) doing.Idle tt tt) j
@@ -365,8 +377,12 @@ pub try-swap-moves : {T : Type 0} (permits p : ℕ) (facts : Facts) (saw : ℕ) 
     → Moves semaphore_object (semaphore_primitive {T = T} permits) tries (where_found saw) p facts 0
     (word_after_exchange saw (saw - 1))
 try-swap-moves permits p facts saw at = record {
-  step = λ c words log handed core does has short small.
-      try-swap-core permits p facts c words log core does has short saw at;
+  step = λ c words log handed shown does has short small.
+      record {
+        core = try-swap-core permits p facts c words log shown.core does has short saw at;
+        unbroken = unbroken-if (where_found saw (slice_index words 0)) log (entry.TryGot p ∷ []) []
+            (unbroken-more log (entry.TryGot p) tt shown.unbroken) (unbroken-same log shown.unbroken);
+      };
   silent = λ n. try-swap-silent p (where_found saw n);
   door = λ n q. absurd (no-door q);
   ticket = λ n j q. absurd (no-ticket doing.Idle tt j q);
@@ -389,9 +405,15 @@ try-swap-moves permits p facts saw at = record {
 pub give-moves : {T : Type 0} (permits p : ℕ) (facts : Facts) → facts.doing ≡ doing.Idle → 0 < facts.has.held
     → Moves semaphore_object (semaphore_primitive {T = T} permits) gives_one in_any_case p facts 0 (word_plus (pos 1))
 give-moves permits p facts idle some = record {
-  step = λ c words log handed core does has short small.
-      give-core permits p facts c words log core does has short idle some small
-      (word-below (slice_index words 0) (free-small (core_shown permits c words log) core));
+  step = λ c words log handed shown does has short small.
+      record {
+        core = give-core permits p facts c words log shown.core does has short idle some small
+            (word-below (slice_index words 0) (free-small (core_shown permits c words log) shown.core));
+        unbroken = unbroken-if (is_below_zero (slice_index words 0)) log
+            (entry.GiveSent p ∷ []) (entry.GiveFreed p ∷ [])
+            (unbroken-more log (entry.GiveSent p) tt shown.unbroken)
+            (unbroken-more log (entry.GiveFreed p) tt shown.unbroken);
+      };
   silent = λ n. give-silent p (is_below_zero n);
   door = λ n q. absurd (no-door (is_below_zero n) q);
   ticket = λ n j q. absurd (no-ticket _ (if-ticketless (is_below_zero n) doing.Owes doing.Idle tt tt) j q);
@@ -456,13 +478,16 @@ gives-none n false v w is none = tt
 pub decide-moves : {T : Type 0} (permits p : ℕ) (facts : Facts) (k : ℕ) → facts.doing ≡ doing.Leaving k
     → Moves semaphore_object (semaphore_primitive {T = T} permits) decides in_any_case p facts 0 (word_plus (pos 1))
 decide-moves permits p facts k leaves = record {
-  step = λ c words log handed core does has short small.
-      subst (λ j. IsCore (core_shown permits
-      (stands_at c p (doing.Decided j (is_below_zero (slice_index words 0))) facts.has)
-      (slice_set words 0 (word_plus (pos 1) (slice_index words 0))) (log ++ entry.Leave p j ∷ [])))
-      (sym (ap number_at leaves))
-      (decide-core permits p facts c words log core does has short k leaves small
-      (word-below (slice_index words 0) (free-small (core_shown permits c words log) core)));
+  step = λ c words log handed shown does has short small.
+      record {
+        core = subst (λ j. IsCore (core_shown permits
+            (stands_at c p (doing.Decided j (is_below_zero (slice_index words 0))) facts.has)
+            (slice_set words 0 (word_plus (pos 1) (slice_index words 0))) (log ++ entry.Leave p j ∷ [])))
+            (sym (ap number_at leaves))
+            (decide-core permits p facts c words log shown.core does has short k leaves small
+            (word-below (slice_index words 0) (free-small (core_shown permits c words log) shown.core)));
+        unbroken = unbroken-more log (entry.Leave p (number_at facts.doing)) tt shown.unbroken;
+      };
   silent = λ n m apart. rw (ne_eqb p m (λ q. apart (sym q))) refl;
   door = λ n q. absurd (no-door (number_at facts.doing) (is_below_zero n) q);
   ticket = λ n j q. absurd (no-ticket (doing.Decided (number_at facts.doing) (is_below_zero n)) tt j q);

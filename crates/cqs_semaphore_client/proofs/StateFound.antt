@@ -33,7 +33,7 @@ module _ {T : Type 0} where
   state-at : (opening : Opening) (n : ℕ) (history : List Entry)
       → WasShown primitive_of opening (HasWord 0 n) history → count_in n ≡ state_of (object_after opening.size history)
   state-at opening n history was =
-      let shows = shows-object (core_shown (permits_of was.client) was.hidden was.words history) was.shown in
+      let shows = shows-object (core_shown (permits_of was.client) was.hidden was.words history) was.shown.core in
       ap count_in (sym was.holds)
       ∙ (shows.state ∙ ap (λ (o : Opening). state_of (object_after o.size history)) was.opening_is)
 
@@ -43,7 +43,7 @@ module _ {T : Type 0} where
   fits-at opening n history was =
       let s = core_shown (permits_of was.client) was.hidden was.words history in
       subst (λ m. StateFits (record { value = count_in m })) was.holds
-      (record { value = state-fits s.state was.shown.range.state (state-few s was.shown) })
+      (record { value = state-fits s.state was.shown.core.range.state (state-few s was.shown.core) })
 
   -- the state
   pub on_state : (event : Event Entry) (made : ℕ → Bool) (v w : View Entry T) (n : ℕ)
@@ -63,7 +63,7 @@ module _ {T : Type 0} where
   next_is v w n loaded =
       let found = loaded.was in
       let was = found.was in
-      let shows = shows-object (core_shown (permits_of was.client) was.hidden was.words found.before) was.shown in
+      let shows = shows-object (core_shown (permits_of was.client) was.hidden was.words found.before) was.shown.core in
       record {
         saw = loaded.saw;
         next = ap (λ h. (object_after w.opening.size h).next) (found.seen ∙ append-nil found.before)

@@ -1,3 +1,5 @@
+pub mod PlainHistories
+pub mod UnbrokenSteps
 pub mod Semaphore
 pub mod SemaphoreSteps
 pub mod SemaphoreSlots

@@ -1,10 +1,9 @@
 -- The semaphore as a client: its one word is the state of a core, whose history is the client's.
-use Rattle.std.specs.Prelude.{◌≡◌, ℕ, ◌+◌, ◌-◌, ◌<◌, true, List, [], ◌∷◌, slice_index, pos, if◌then◌else◌}
+use Rattle.std.specs.Prelude.{◌≡◌, ℕ, ◌+◌, ◌-◌, ◌<◌, true, false, List, [], ◌∷◌, slice_index, pos, if◌then◌else◌}
 use Rattle.cqs_core.specs.declared.doings.Doing.{Doing}
 use Rattle.cqs_core.specs.declared.doings.Doing.TheVariants as doing
 use Rattle.cqs_core.specs.declared.entries.Entry.{Entry}
 use Rattle.cqs_core.specs.declared.entries.Entry.TheVariants as entry
-use Rattle.cqs_core.specs.SemaphoreEntries.{IsLegal}
 use Rattle.cqs_core.specs.SemaphoreTable.{Shape}
 use Rattle.cqs_core.specs.SemaphoreNames.{entry_names}
 use Rattle.cqs_core.specs.SemaphoreShown.{IsCore}
@@ -19,10 +18,12 @@ use Rattle.cqs_rule_laws.specs.Manner.{Manner, asks, owed}
 use Rattle.cqs_words.specs.State.{state_word, count_in, is_above_zero, is_below_zero}
 use Rattle.cqs_rule_laws.specs.Object.{Object, Primitive}
 use Rattle.cqs_rule_laws.specs.Ruled.{number_at}
+use Rattle.cqs_semaphore_client.specs.PlainHistories.{IsPlainHistory, IsUnbroken}
 
 -- the core that the table of a semaphore shows
 abbrev pub core_shown : ℕ → Hidden → List ℕ → List Entry → Shape
 core_shown permits c words log = record {
+  sync = false;
   permits = permits;
   state = count_in (slice_index words 0);
   held = held_of c.has;
@@ -30,8 +31,13 @@ core_shown permits c words log = record {
   queue = c.queue;
 }
 
+-- That is a core which isn't synchronous, and no number was broken.
+pub record ShowsCore (permits : ℕ) (c : Hidden) (words : List ℕ) (log : List Entry) : Type 0 where
+  pub core : IsCore (core_shown permits c words log)
+  pub unbroken : IsUnbroken log
+
 abbrev pub shows_core : {T : Type 0} → ℕ → Hidden → List ℕ → List Entry → List T → Type 0
-shows_core permits c words log handed = IsCore (core_shown permits c words log)
+shows_core permits c words log handed = ShowsCore permits c words log
 
 -- a pass that has what it waited for holds one permit more
 abbrev pub one_more : Gains
@@ -40,7 +46,7 @@ one_more = record { held = λ held. held + 1; slots = λ payload. [] }
 abbrev pub semaphore_object : Object Entry
 semaphore_object = record {
   names = entry_names;
-  legal = λ opening. IsLegal opening.size;
+  legal = λ opening. IsPlainHistory opening.size;
   entries = λ step p k payload. step_entries step p k;
   gains = one_more;
   most = λ opening. opening.size;

@@ -33,6 +33,7 @@ use Rattle.cqs_rule_laws.specs.Manner.{Suits}
 use Rattle.cqs_rule_laws.specs.Opened.{first_hidden, four}
 use Rattle.cqs_semaphore_client.specs.Semaphore.{core_shown, one_more, opens_one, semaphore_manner, semaphore_object, semaphore_primitive}
 use Rattle.cqs_rule_laws.specs.Views.{first_has}
+use Rattle.cqs_semaphore_client.specs.UnbrokenSteps.{unbroken-none, unbroken-step}
 use Rattle.cqs_words.specs.State.{state_word, count_in}
 
 silent-step : (s : QueueStep) (p k payload : ℕ) → NamesOnly entry_names p (step_entries s p k)
@@ -144,7 +145,14 @@ begins-core : (permits passes : ℕ) → 0 < permits → permits ≤ 1048576 →
 begins-core permits passes some low any few =
     let queue = (opening_shape permits passes).queue in
     subst (λ (z : List ℕ × ℤ).
-    IsCore (record { permits = permits; state = z.1; held = z.0; history = []; queue = queue }))
+    IsCore (record {
+      sync = false;
+      permits = permits;
+      state = z.1;
+      held = z.0;
+      history = [];
+      queue = queue;
+    }))
     (λ i. (sym (first-held passes any) i, sym (opens-state permits) i))
     (opened-core permits passes
     (record { some_permits = some; few_permits = low; some_passes = any; few_passes = few }))
@@ -226,17 +234,17 @@ held-few s p n core there =
 semaphore-slots : {T : Type 0} (permits : ℕ)
     → KeepsSlots semaphore_object (semaphore_primitive {T = T} permits)
 semaphore-slots permits = record {
-  apart = λ c words log handed p q k mine theirs core here there o o'.
+  apart = λ c words log handed p q k mine theirs shown here there o o'.
       one-holder c words log p q mine theirs
-      (subst (λ n. IsCore (core_shown n c words log)) o.0 core) here there o.2 o'.2;
-  few = λ c words log handed p has core there.
-      held-few (core_shown permits c words log) p has.held core (held-at c.has p has there);
-  known = λ c words log handed p has core there. tt;
+      (subst (λ n. IsCore (core_shown n c words log)) o.0 shown.core) here there o.2 o'.2;
+  few = λ c words log handed p has shown there.
+      held-few (core_shown permits c words log) p has.held shown.core (held-at c.has p has there);
+  known = λ c words log handed p has shown there. tt;
   steps = λ s has payload k suits kept o. (o.0, o.1, after (row_of s) has payload o.2);
   gathers = λ mine theirs k o. ⊎_elim
       (λ (a : opens_one permits mine k). (a.0, a.1, let some = a.2 in omega arith))
       (λ (b : opens_one permits theirs k). (b.0, b.1, let some = b.2 in omega arith)) o;
-  hands_in = λ c words log handed k value core. core;
+  hands_in = λ c words log handed k value shown. shown;
 }
   where
     gained : (gain : Gain) (has : Has) (payload : ℕ) → 0 < has.held
@@ -261,26 +269,42 @@ pub semaphore-client : {T : Type 0} (permits : ℕ) → 0 < permits → permits 
     → IsClient semaphore_object (semaphore_primitive {T = T} permits)
 semaphore-client permits some low = record {
   mode = refl;
-  begins = λ passes any few. begins-core permits passes some low any few;
-  steps = λ c t p k found has payload words log handed core opens there paid suits low low'.
-      steps-core permits c t p k found has payload words log core opens there suits low low';
-  counts = λ c p may words log handed core. core;
-  hands = λ c from to mine theirs words log handed core apart idle idle' has there.
-      given-permits permits c from to mine.held mine theirs (has_none mine) (has_both theirs mine)
-      words log core apart has there (omega arith) (omega arith) refl;
-  shares = λ c from to many mine theirs words log handed core apart idle idle' has there enough.
-      given-permits permits c from to many mine theirs (record mine { held = mine.held - many })
-      (record theirs { held = theirs.held + many }) words log core apart has there enough refl refl;
+  begins = λ passes any few.
+      record { core = begins-core permits passes some low any few; unbroken = unbroken-none };
+  steps = λ c t p k found has payload words log handed shown opens there paid suits low low'.
+      record {
+        core = steps-core permits c t p k found has payload words log shown.core opens there suits
+            low low';
+        unbroken = unbroken-step t p k log shown.unbroken;
+      };
+  counts = λ c p may words log handed shown.
+      record { core = shown.core; unbroken = shown.unbroken };
+  hands = λ c from to mine theirs words log handed shown apart idle idle' has there.
+      record {
+        core = given-permits permits c from to mine.held mine theirs (has_none mine)
+            (has_both theirs mine) words log shown.core apart has there (omega arith) (omega arith)
+            refl;
+        unbroken = shown.unbroken;
+      };
+  shares = λ c from to many mine theirs words log handed shown apart idle idle' has there enough.
+      record {
+        core = given-permits permits c from to many mine theirs
+            (record mine { held = mine.held - many })
+            (record theirs { held = theirs.held + many }) words log shown.core apart has there
+            enough refl refl;
+        unbroken = shown.unbroken;
+      };
   silent = silent-step;
   quiet = record { drawing = λ p k payload. refl; passing = λ p k payload. refl };
-  sound = λ c words log handed core. core.sound;
-  legal_shown = λ c words log handed core. core.legal;
-  held_fits = λ c words log handed p has core there.
-      let few = held-small (core_shown permits c words log) p has.held core
+  sound = λ c words log handed shown. shown.core.sound;
+  legal_shown = λ c words log handed shown.
+      record { legal = shown.core.legal; unbroken = shown.unbroken };
+  held_fits = λ c words log handed p has shown there.
+      let few = held-small (core_shown permits c words log) p has.held shown.core
       (held-at c.has p has there) in omega arith;
-  reaches_few = λ c words log handed p core owes.
-      let few = reached-few (core_shown permits c words log) p core owes in omega arith;
-  begins_few = λ c words log handed p has cost payload core idle there paid begun suits.
+  reaches_few = λ c words log handed p shown owes.
+      let few = reached-few (core_shown permits c words log) p shown.core owes in omega arith;
+  begins_few = λ c words log handed p has cost payload shown idle there paid begun suits.
       absurd (none-begun cost begun suits);
   slots = semaphore-slots permits;
 }

@@ -6,13 +6,13 @@ use Rattle.std.proofs.lemmas.List.Elements.{filter-append}
 use Rattle.std.proofs.lemmas.List.Sums.{fold-append}
 use Rattle.cqs_core.specs.declared.entries.Entry.{Entry}
 use Rattle.cqs_core.specs.declared.entries.Entry.TheVariants as entry
-use Rattle.cqs_core.specs.SemaphoreEntries.{IsLegal}
 use Rattle.cqs_core.specs.SemaphoreNames.{entry_names}
 use Rattle.cqs_rule_laws.specs.declared.view.View.{View}
 use Rattle.cqs_rule_laws.specs.Lists.{part}
 use Rattle.cqs_rule_laws.proofs.Calls.{same-here, same-then}
 use Rattle.cqs_semaphore.specs.Calls.{CallRule}
 use Rattle.cqs_semaphore.specs.Entries.{took_entries, came_by}
+use Rattle.cqs_semaphore_client.specs.PlainHistories.{IsPlainHistory}
 use Rattle.cqs_semaphore_client.specs.Semaphore.{semaphore_object}
 use Rattle.cqs_rule_laws.proofs.Courses.{course-call, course-then}
 use Rattle.cqs_semaphore_crew.specs.declared.counts.Acquires.{Acquires}
@@ -32,7 +32,8 @@ one_more x = count_of (x + 1)
 
 module _ {T : Type 0} where
   -- nothing
-  pub adds-none : (due : ℕ) (v : View Entry T) (c : Counts) → IsLegal v.opening.size v.seen → Adds due due v c v c
+  pub adds-none : (due : ℕ) (v : View Entry T) (c : Counts) → IsPlainHistory v.opening.size v.seen
+      → Adds due due v c v c
   adds-none due v c legal = record {
     own = [];
     course = course-none v legal;

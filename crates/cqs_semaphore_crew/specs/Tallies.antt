@@ -55,6 +55,8 @@ with_entry t (entry.TryBusy c) = record t { busy = t.busy + 1 }
 with_entry t (entry.GiveFreed c) = record t { freed = t.freed + 1 }
 with_entry t (entry.GiveSent c) = record t { sent = t.sent + 1 }
 with_entry t (entry.Deliver k) = t
+with_entry t (entry.Spoil c k) = t
+with_entry t (entry.Undo c k) = t
 with_entry t (entry.Leave c k) = record t { gone = t.gone + 1 }
 with_entry t (entry.Late c k) = record t { late = t.late + 1 }
 with_entry t (entry.LookGranted c k) = record t { granted = t.granted + 1 }

@@ -135,7 +135,7 @@ module _ (x y : Room) (answer : Reply) (sole : IsSole x.shape) where
                   (omega (arith, came.holds, funded.holds));
             };
             has = subst (λ (o : Semaphore). HasWait (shown_semaphore x.shape).next 0 o) (sym came.shows)
-                (comes-entered (shown_semaphore x.shape));
+                (comes-entered (shown_semaphore x.shape) refl);
             keeps = λ wait has. subst (λ (o : Semaphore). HasWait wait.index 0 o) (sym came.shows)
                 (stays-entered (shown_semaphore x.shape) wait.index 0 has);
           })

@@ -1,13 +1,14 @@
 -- What the entries of one caller's calls make of a semaphore: which waits still stand, and how many permits are held
 -- and how many of them nobody has looked at.
-use Rattle.std.proofs.Common.{◌≡◌, ◌≢◌, ◌⊎◌, inl, inr, ℕ, nat_lt, Bool, true, false, List, ◌∷◌, Some, refl, ap, ◌∙◌, eq-eqb}
+use Rattle.std.proofs.Common.{◌≡◌, ◌≢◌, ◌⊎◌, inl, inr, ℕ, nat_lt, Bool, true, false, List, [], ◌∷◌, Some, refl, ap, ◌∙◌, eq-eqb}
 use Rattle.std.proofs.lemmas.Bool.{cases_eq}
 use Rattle.cqs_core.specs.declared.entries.Entry.TheVariants as entry
 use Rattle.cqs_core.specs.Keyed.{insert_by, without}
 use Rattle.cqs_core.specs.QueueLine.{Waiting, Service}
-use Rattle.cqs_core.specs.SemaphoreEntries.{after_entry, find_wait, with_service, turned_back, after_leave, IsServed}
+use Rattle.cqs_core.specs.SemaphoreEntries.{after_entry, find_wait, has_spoiled, with_service, turned_back, after_leave, IsServed}
 use Rattle.cqs_core.specs.SemaphoreObject.{Semaphore, due}
 use Rattle.cqs_core.specs.SoleCaller.{HasWait}
+use Rattle.cqs_core.proofs.Waits.{enters_by}
 use Rattle.cqs_floor_alone_kinds.proofs.Stays.{stays-append, comes-last, stays-without, stays-placed, comes-placed, stays-changed}
 
 -- a caller that goes to the end of the line
@@ -15,11 +16,23 @@ abbrev pub entered_after_door : Semaphore → Semaphore
 entered_after_door o = after_entry (after_entry o (entry.TakeDoor 0)) (entry.Enter 0 o.next)
 
 pub stays-entered : (o : Semaphore) (k p : ℕ) → HasWait k p o → HasWait k p (entered_after_door o)
-stays-entered o k p (inl waits) = inl (stays-append (record { wait = k; pass = p }) o.line _ waits)
-stays-entered o k p (inr serves) = inr serves
+stays-entered o k p (inl waits) = go (has_spoiled o.next o.spoiled)
+  where
+    go : (b : Bool) → HasWait k p (enters_by (after_entry o (entry.TakeDoor 0)) 0 o.next b)
+    go true = inl waits
+    go false = inl (stays-append (record { wait = k; pass = p }) o.line _ waits)
+stays-entered o k p (inr serves) = go (has_spoiled o.next o.spoiled)
+  where
+    go : (b : Bool) → HasWait k p (enters_by (after_entry o (entry.TakeDoor 0)) 0 o.next b)
+    go true = inr serves
+    go false = inr serves
 
-pub comes-entered : (o : Semaphore) → HasWait o.next 0 (entered_after_door o)
-comes-entered o = inl (comes-last (record { wait = o.next; pass = 0 }) o.line)
+pub comes-entered : (o : Semaphore) → o.spoiled ≡ [] → HasWait o.next 0 (entered_after_door o)
+comes-entered o none = go (has_spoiled o.next o.spoiled) (ap (has_spoiled o.next) none)
+  where
+    go : (b : Bool) → b ≡ false → HasWait o.next 0 (enters_by (after_entry o (entry.TakeDoor 0)) 0 o.next b)
+    go true broken = absurd (cc)
+    go false whole = inl (comes-last (record { wait = o.next; pass = 0 }) o.line)
 
 -- a permit that goes to the first of the line
 abbrev pub sent_to : Semaphore → Waiting → Semaphore

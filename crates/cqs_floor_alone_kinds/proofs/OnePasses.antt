@@ -6,13 +6,14 @@ use Rattle.cqs_plan.specs.declared.plans.kind.Kind.{Kind}
 use Rattle.cqs_plan.specs.Floor.{size_of}
 use Rattle.cqs_core.specs.declared.entries.Entry.{Entry}
 use Rattle.cqs_core.specs.declared.entries.Entry.TheVariants as entry
-use Rattle.cqs_core.specs.SemaphoreEntries.{IsFirst, IsLegal, after_entry, object_after}
+use Rattle.cqs_core.specs.SemaphoreEntries.{IsFirst, IsLegal, after_entry, at_door, object_after}
 use Rattle.cqs_core.specs.SemaphoreObject.{Semaphore}
 use Rattle.cqs_rule_laws.specs.Lists.{Has, without}
 use Rattle.cqs_rule_laws.specs.declared.config.Place.{Place}
 use Rattle.cqs_rule_laws.proofs.Lists.{has_append, has_without, without_has}
 use Rattle.cqs_semaphore.specs.Calls.{Rests, plain_after}
 use Rattle.cqs_semaphore.specs.Causes.{drawn_in}
+use Rattle.cqs_semaphore.proofs.States.{entered-next}
 use Rattle.cqs_floor_alone_kinds.specs.Soles.{Acquires, Cancels, EndsWait, IsLawful, Polls, Releases, is_in_line, object}
 use Rattle.cqs_floor_alone_kinds.specs.SoleQueue.{IsFunded, IsStill, OnePass, is_news, news, sole_of}
 use Rattle.cqs_floor_alone_kinds.specs.Waits.{WaitsAt}
@@ -106,7 +107,8 @@ module _ {X T : Type 0} (q : OnePass X T) where
               mine = mine;
               rests = rests-next v w (entries k) c.same c.seen (size_of kind) room held (room - 1) held
                   (v.facts.waits ++ k ∷ []) funded.rests rests (omega (arith, some)) still
-                  (λ j has. below o k is j (has_append j v.facts.waits (k ∷ []) has) funded.rests.drawn);
+                  (λ j has. subst (λ n. j < n) (sym (entered-next (at_door o 0) 0 k))
+                  (below o k is j (has_append j v.facts.waits (k ∷ []) has) funded.rests.drawn));
               permits = kept ∙ funded.permits;
               spare = omega (arith, capacity, funded.spare, some);
             };

@@ -8,10 +8,11 @@ use Rattle.cqs_core.specs.declared.entries.Entry.{Entry}
 use Rattle.cqs_core.specs.declared.entries.Entry.TheVariants as entry
 use Rattle.cqs_core.specs.Keyed as keyed
 use Rattle.cqs_core.specs.QueueLine.{Waiting}
-use Rattle.cqs_core.specs.SemaphoreEntries.{IsFirst, after_entry, find_wait, after_leave, object_after}
+use Rattle.cqs_core.specs.SemaphoreEntries.{IsFirst, after_entry, find_wait, after_leave, has_spoiled, object_after}
 use Rattle.cqs_core.specs.SemaphoreObject.{Semaphore, due, opening}
 use Rattle.cqs_core.specs.SoleCaller.{Told, sole_call, tells}
 use Rattle.cqs_core.proofs.Counts.{bit}
+use Rattle.cqs_core.proofs.Waits.{enters_by}
 use Rattle.cqs_rule_laws.specs.declared.view.Opening.{Opening}
 use Rattle.cqs_rule_laws.specs.declared.view.View.{View}
 use Rattle.cqs_rule_laws.specs.declared.config.Place.{Place}
@@ -34,7 +35,11 @@ line_left o k = record o { line = keyed.without (λ (w : Waiting). w.wait) k o.l
 -- what the entries of one call leave of a semaphore that is still
 module _ (o : Semaphore) (still : IsStill o) where
   pub still-waiting : IsStill (after_entry (after_entry o (entry.TakeDoor 0)) (entry.Enter 0 o.next))
-  still-waiting = record { way = still.way; door = rw still.door refl }
+  still-waiting = go (has_spoiled o.next o.spoiled)
+    where
+      go : (b : Bool) → IsStill (enters_by (after_entry o (entry.TakeDoor 0)) 0 o.next b)
+      go true = record { way = still.way; door = rw still.door refl }
+      go false = record { way = still.way; door = rw still.door refl }
 
   pub still-sent : (k : ℕ) → IsStill (after_entry (after_entry o (entry.GiveSent 0)) (entry.Deliver k))
   still-sent k = let none = still.way in record { way = omega (arith, none); door = still.door }

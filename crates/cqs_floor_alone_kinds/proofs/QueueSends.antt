@@ -113,7 +113,7 @@ module _ {T : Type 0} (k : ℕ) (v u : View Entry T) (alone : v.alone ≡ true) 
       ap (λ (o : Semaphore). o.way) (fold-append after_entry (opening v.opening.size) v.seen left_entries)
       ∙ none-left in
       never-sent v.opening.size j (v.seen ++ left_entries)
-      (subst (λ es. IsLegal v.opening.size es) seen (subst (λ n. IsLegal n u.seen) size rule.legal)) way
+      (subst (λ es. IsLegal v.opening.size es) seen (subst (λ n. IsLegal n u.seen) size rule.legal.legal)) way
 
   left-rests : CallRule v left_entries [] u → Rests v v.facts.has.held (without k v.facts.waits) u → HasLeft k v u
   left-rests rule rests = record { same = rule.called.same; seen = went v u _ _ rule alone; rests = rests }

@@ -9,11 +9,12 @@ use Rattle.cqs_core.specs.declared.entries.Entry.{Entry}
 use Rattle.cqs_core.specs.declared.entries.Entry.TheVariants as entry
 use Rattle.cqs_core.specs.Keyed.{without}
 use Rattle.cqs_core.specs.QueueLine.{Waiting}
-use Rattle.cqs_core.specs.SemaphoreEntries.{IsBalanced, IsLegal, after_entry, after_leave, object_after}
-use Rattle.cqs_core.specs.SemaphoreObject.{Semaphore, due, opening}
+use Rattle.cqs_core.specs.SemaphoreEntries.{IsBalanced, IsLegal, after_entry, after_leave, has_spoiled, object_after}
+use Rattle.cqs_core.specs.SemaphoreObject.{Semaphore, due, early, opening}
 use Rattle.cqs_core.specs.SemaphoreShown.{free_of, short_of, state_of}
 use Rattle.cqs_core.proofs.Balance.{every-history-balanced}
 use Rattle.cqs_core.proofs.Counts.{bit}
+use Rattle.cqs_core.proofs.Waits.{enters_by}
 use Rattle.cqs_plan.specs.Floor.{size_of}
 use Rattle.cqs_rule_laws.specs.declared.view.View.{View}
 use Rattle.cqs_rule_laws.specs.Lists.{Has}
@@ -67,12 +68,18 @@ above (negsuc m) few = grind (arith, ints)
 line-after : (o : Semaphore) (e : Entry) → length (after_entry o e).line ≤ length o.line + bit (is_enter e)
 line-after o (entry.TakeNow c) = omega arith
 line-after o (entry.TakeDoor c) = omega arith
-line-after o (entry.Enter c k) = omega (arith, length_push o.line (record { wait = k; pass = c }))
+line-after o (entry.Enter c k) = go (has_spoiled k o.spoiled)
+  where
+    go : (b : Bool) → length (enters_by o c k b).line ≤ length o.line + 1
+    go true = omega arith
+    go false = omega (arith, length_push o.line (record { wait = k; pass = c }))
 line-after o (entry.TryGot c) = omega arith
 line-after o (entry.TryBusy c) = omega arith
 line-after o (entry.GiveFreed c) = omega arith
 line-after o (entry.GiveSent c) = omega arith
 line-after o (entry.Deliver k) = omega (arith, without-le k o.line)
+line-after o (entry.Spoil c k) = omega (arith, without-le k o.line)
+line-after o (entry.Undo c k) = omega arith
 line-after o (entry.Leave c k) = omega (arith, left-line o k)
 line-after o (entry.Late c k) = omega arith
 line-after o (entry.LookGranted c k) = omega arith
@@ -98,7 +105,8 @@ module _ {T : Type 0} (v : View Entry T) (size room held : ℕ) (rests : IsResti
   -- all who must be resumed stand in the line
   due-line : due o - o.way ≡ length o.line
   due-line = let none = rests.still.way in let nobody = ap (λ (ds : List ℕ). length ds) rests.still.door in
-      omega (arith, none, nobody)
+      let few : early o ≤ length o.door = balanced.early in
+      omega (arith, none, nobody, few)
 
   state-is : state_of o ≡ pos o.free -ℤ pos (length o.line)
   state-is = ap (λ n. pos o.free -ℤ pos n) due-line
@@ -108,7 +116,7 @@ module _ {T : Type 0} (v : View Entry T) (size room held : ℕ) (rests : IsResti
     where
       go : (o.free ≡ 0) ⊎ (o.way ≡ due o) → (o.free ≡ 0) ⊎ (length o.line ≡ 0)
       go (inl none) = inl none
-      go (inr all) = inr (omega (arith, all, rests.still.way))
+      go (inr all) = inr (omega (arith, all, due-line))
 
   pub free-told : free_of (state_of o) ≡ o.free
   free-told = ap free_of state-is ∙ state-free o.free (length o.line) one-none

@@ -1,5 +1,5 @@
 -- What the callers of a semaphore came to: after one call, after a meet, and where all have given all back.
-use Rattle.std.proofs.Common.{◌≡◌, ◌⊎◌, inl, inr, ℕ, suc, ◌+◌, ◌<◌, nat_lt, Bool, true, false, List, [], ◌∷◌, ◌++◌, Some, length, take, slice_get, sum_by, refl, subst, arith}
+use Rattle.std.proofs.Common.{◌≡◌, ◌⊎◌, inl, inr, ℕ, suc, ◌+◌, ◌<◌, nat_lt, Bool, true, false, List, [], ◌∷◌, ◌++◌, Some, length, take, slice_get, sum_by, refl, ap, subst, arith}
 use Rattle.std.proofs.lemmas.List.{length_push, take_all}
 use Rattle.std.proofs.lemmas.List.Sums.{sum_by_push}
 use Rattle.cqs_core.specs.declared.entries.Entry.{Entry}
@@ -7,13 +7,15 @@ use Rattle.cqs_core.specs.declared.entries.Entry.TheVariants as entry
 use Rattle.cqs_core.specs.Keyed.{without}
 use Rattle.cqs_core.specs.Parts.{Has, part}
 use Rattle.cqs_core.specs.QueueLine.{Waiting}
-use Rattle.cqs_core.specs.SemaphoreObject.{Semaphore, opening, due}
-use Rattle.cqs_core.specs.SemaphoreEntries.{IsAllowed, IsLegal, after_entry, object_after, turned_back}
+use Rattle.cqs_core.specs.SemaphoreObject.{Semaphore, opening, due, early, early_of}
+use Rattle.cqs_core.specs.SemaphoreEntries.{IsAllowed, after_entry, has_spoiled, object_after, turned_back}
 use Rattle.cqs_core.specs.SemaphoreNames.{entry_names}
 use Rattle.cqs_core.proofs.Balance.{every-history-balanced}
 use Rattle.cqs_core.proofs.Histories.{walk, take-next}
 use Rattle.cqs_core.proofs.Rising.{in-take, length-without, length-placed}
+use Rattle.cqs_core.proofs.Waits.{enters_by}
 use Rattle.cqs_rule_laws.specs.Lists.{IsDistinct}
+use Rattle.cqs_semaphore_client.specs.PlainHistories.{BreaksNone, IsPlainHistory}
 use Rattle.cqs_floor_shared_kinds.specs.Accounts.{NamesOne}
 use Rattle.cqs_floor_shared_kinds.specs.PermitAccounts.{IsAccounted, doors, enters, gains, losses}
 use Rattle.cqs_floor_shared_kinds.proofs.Accounts.{over-both, over-next, over-parts, over-whole}
@@ -28,6 +30,8 @@ by-name f none (entry.TryBusy c) = inr (c, λ n. refl)
 by-name f none (entry.GiveFreed c) = inr (c, λ n. refl)
 by-name f none (entry.GiveSent c) = inr (c, λ n. refl)
 by-name f none (entry.Deliver k) = inl (none k)
+by-name f none (entry.Spoil c k) = inr (c, λ n. refl)
+by-name f none (entry.Undo c k) = inr (c, λ n. refl)
 by-name f none (entry.Leave c k) = inr (c, λ n. refl)
 by-name f none (entry.Late c k) = inr (c, λ n. refl)
 by-name f none (entry.LookGranted c k) = inr (c, λ n. refl)
@@ -86,67 +90,76 @@ account-both own others h theirs all has had mine also a b = record {
   );
 }
 
--- what has come to callers, by the entries so far
+-- what has come to callers, by the entries so far, of which none broke a number
 pub record Adds (o : Semaphore) (gained lost at_door entered : ℕ) : Type 0 where
   pub had : o.held + length o.line + lost ≡ gained
   pub door : length o.door + entered ≡ at_door
+  pub whole : o.spoiled ≡ []
 
 adds-turned : (o : Semaphore) (gained lost at_door entered : ℕ) → Adds o gained lost at_door entered
     → Adds (turned_back o) gained lost at_door entered
 adds-turned o gained lost at_door entered adds = go (nat_lt (due o) o.way) refl
   where
     go : (b : Bool) → nat_lt (due o) o.way ≡ b → Adds (turned_back o) gained lost at_door entered
-    go true is = rw is (record { had = adds.had; door = adds.door })
+    go true is = rw is (record { had = adds.had; door = adds.door; whole = adds.whole })
     go false is = rw is adds
 
-adds-entry : (o : Semaphore) (e : Entry) (gained lost at_door entered : ℕ) → IsAllowed o e
+adds-entry : (o : Semaphore) (e : Entry) (gained lost at_door entered : ℕ) → BreaksNone e → IsAllowed o e
     → Adds o gained lost at_door entered
     → Adds (after_entry o e) (gained + gains e) (lost + losses e) (at_door + doors e) (entered + enters e)
-adds-entry o (entry.TakeNow c) gained lost at_door entered free a =
-    let had = a.had in let door = a.door in record { had = omega arith; door = omega arith }
-adds-entry o (entry.TakeDoor c) gained lost at_door entered none a =
+adds-entry o (entry.TakeNow c) gained lost at_door entered breaks free a =
+    let had = a.had in let door = a.door in record { had = omega arith; door = omega arith; whole = a.whole }
+adds-entry o (entry.TakeDoor c) gained lost at_door entered breaks none a =
     let had = a.had in let door = a.door in
     let longer = length-placed (λ d. d) c o.door in
-    record { had = omega arith; door = omega (arith, longer) }
-adds-entry o (entry.Enter c k) gained lost at_door entered (stands, next) a =
-    let had = a.had in let door = a.door in
-    let shorter = length-without (λ d. d) c c o.door refl stands in
-    let longer = length_push o.line (record { wait = k; pass = c }) in
-    record { had = omega (arith, longer); door = omega (arith, shorter) }
-adds-entry o (entry.TryGot c) gained lost at_door entered free a =
-    let had = a.had in let door = a.door in record { had = omega arith; door = omega arith }
-adds-entry o (entry.TryBusy c) gained lost at_door entered none a =
-    let had = a.had in let door = a.door in record { had = omega arith; door = omega arith }
-adds-entry o (entry.GiveFreed c) gained lost at_door entered (some, all) a =
-    let had = a.had in let door = a.door in record { had = omega (arith, some); door = omega arith }
-adds-entry o (entry.GiveSent c) gained lost at_door entered (some, few) a =
-    let had = a.had in let door = a.door in record { had = omega (arith, some); door = omega arith }
-adds-entry o (entry.Deliver k) gained lost at_door entered (c, waits) a =
+    record { had = omega arith; door = omega (arith, longer); whole = a.whole }
+adds-entry o (entry.Enter c k) gained lost at_door entered breaks (stands, next, may) a =
+    go (has_spoiled k o.spoiled) (ap (has_spoiled k) a.whole)
+  where
+    go : (b : Bool) → b ≡ false
+        → Adds (enters_by o c k b) (gained + 1) (lost + 0) (at_door + 0) (entered + 1)
+    go true broken = absurd (cc)
+    go false unbroken =
+        let had = a.had in let door = a.door in
+        let shorter = length-without (λ d. d) c c o.door refl stands in
+        let longer = length_push o.line (record { wait = k; pass = c }) in
+        record { had = omega (arith, longer); door = omega (arith, shorter); whole = a.whole }
+adds-entry o (entry.TryGot c) gained lost at_door entered breaks free a =
+    let had = a.had in let door = a.door in record { had = omega arith; door = omega arith; whole = a.whole }
+adds-entry o (entry.TryBusy c) gained lost at_door entered breaks none a =
+    let had = a.had in let door = a.door in record { had = omega arith; door = omega arith; whole = a.whole }
+adds-entry o (entry.GiveFreed c) gained lost at_door entered breaks (some, all) a =
+    let had = a.had in let door = a.door in record { had = omega (arith, some); door = omega arith; whole = a.whole }
+adds-entry o (entry.GiveSent c) gained lost at_door entered breaks (some, few) a =
+    let had = a.had in let door = a.door in record { had = omega (arith, some); door = omega arith; whole = a.whole }
+adds-entry o (entry.Deliver k) gained lost at_door entered breaks (c, waits) a =
     let had = a.had in let door = a.door in
     let among = in-take (record { wait = k; pass = c }) o.way o.line waits in
     let shorter = length-without (λ w. w.wait) k (record { wait = k; pass = c }) o.line refl among.1 in
-    record { had = omega (arith, shorter); door = omega arith }
-adds-entry o (entry.Leave c k) gained lost at_door entered waits a =
+    record { had = omega (arith, shorter); door = omega arith; whole = a.whole }
+adds-entry o (entry.Spoil c k) gained lost at_door entered breaks may a = absurd breaks
+adds-entry o (entry.Undo c k) gained lost at_door entered breaks may a = absurd breaks
+adds-entry o (entry.Leave c k) gained lost at_door entered breaks waits a =
     let had = a.had in let door = a.door in
     let shorter = length-without (λ w. w.wait) k (record { wait = k; pass = c }) o.line refl waits in
     let left : Adds (record o { line = without (λ w. w.wait) k o.line })
     (gained + 0) (lost + 1) (at_door + 0) (entered + 0)
-    = record { had = omega (arith, shorter); door = omega arith } in
+    = record { had = omega (arith, shorter); door = omega arith; whole = a.whole } in
     adds-turned (record o { line = without (λ w. w.wait) k o.line })
     (gained + 0) (lost + 1) (at_door + 0) (entered + 0) left
-adds-entry o (entry.Late c k) gained lost at_door entered served a =
-    let had = a.had in let door = a.door in record { had = omega arith; door = omega arith }
-adds-entry o (entry.LookGranted c k) gained lost at_door entered served a =
-    let had = a.had in let door = a.door in record { had = omega arith; door = omega arith }
-adds-entry o (entry.LookPending c k) gained lost at_door entered waits a =
-    let had = a.had in let door = a.door in record { had = omega arith; door = omega arith }
+adds-entry o (entry.Late c k) gained lost at_door entered breaks served a =
+    let had = a.had in let door = a.door in record { had = omega arith; door = omega arith; whole = a.whole }
+adds-entry o (entry.LookGranted c k) gained lost at_door entered breaks served a =
+    let had = a.had in let door = a.door in record { had = omega arith; door = omega arith; whole = a.whole }
+adds-entry o (entry.LookPending c k) gained lost at_door entered breaks waits a =
+    let had = a.had in let door = a.door in record { had = omega arith; door = omega arith; whole = a.whole }
 
 abbrev AddsUp : List Entry → Semaphore → Type 0
 AddsUp h o = Adds o (sum_by gains h) (sum_by losses h) (sum_by doors h) (sum_by enters h)
 
 adds-next : (history : List Entry) (n : ℕ) (e : Entry) (o : Semaphore) → slice_get history n ≡ Some e
-    → IsAllowed o e → AddsUp (take n history) o → AddsUp (take (suc n) history) (after_entry o e)
-adds-next history n e o got allowed adds =
+    → BreaksNone e → IsAllowed o e → AddsUp (take n history) o → AddsUp (take (suc n) history) (after_entry o e)
+adds-next history n e o got breaks allowed adds =
     let front : List Entry = take n history in
     rw (
       take-next history n e got,
@@ -155,15 +168,16 @@ adds-next history n e o got allowed adds =
       sum_by_push doors front e,
       sum_by_push enters front e,
     )
-    (adds-entry o e _ _ _ _ allowed adds)
+    (adds-entry o e _ _ _ _ breaks allowed adds)
 
 -- a legal history adds up
-adds-up : (permits : ℕ) (history : List Entry) → IsLegal permits history
+adds-up : (permits : ℕ) (history : List Entry) → IsPlainHistory permits history
     → AddsUp history (object_after permits history)
-adds-up permits history legal =
+adds-up permits history plain =
     let whole : AddsUp (take (length history) history) (object_after permits (take (length history) history))
-    = walk IsAllowed after_entry (opening permits) history (λ n o. AddsUp (take n history) o) legal
-    (λ n e got allowed adds. adds-next history n e _ got allowed adds) 0 (record { had = refl; door = refl })
+    = walk IsAllowed after_entry (opening permits) history (λ n o. AddsUp (take n history) o) plain.legal
+    (λ n e got allowed adds. adds-next history n e _ got (plain.unbroken.at n e got) allowed adds) 0
+    (record { had = refl; door = refl; whole = refl })
     (length history) (length history) (omega arith) (omega arith) in
     subst (λ h. AddsUp h (object_after permits h)) (take_all (length history) history (omega arith)) whole
 
@@ -178,18 +192,19 @@ no-line [] none = refl
 no-line (w ∷ line) none = absurd (omega (arith, none))
 
 -- Where nobody but these callers is named, and they have nothing of it, the semaphore is at rest.
-pub rests : (permits : ℕ) (own : List ℕ) (h : List Entry) → IsLegal permits h → IsDistinct own
+pub rests : (permits : ℕ) (own : List ℕ) (h : List Entry) → IsPlainHistory permits h → IsDistinct own
     → ((n : ℕ) → (part entry_names n h ≡ []) ⊎ Has n own) → IsAccounted own h 0
     → IsAtRest permits (object_after permits h)
-rests permits own h legal distinct whole account =
+rests permits own h plain distinct whole account =
     let o : Semaphore = object_after permits h in
-    let all : AddsUp h o = adds-up permits h legal in
-    let balanced = every-history-balanced permits h legal in
+    let all : AddsUp h o = adds-up permits h plain in
+    let balanced = every-history-balanced permits h plain.legal in
     let gained = over-whole entry_names gains (by-name gains (λ k. refl)) own distinct h whole in
     let lost = over-whole entry_names losses (by-name losses (λ k. refl)) own distinct h whole in
     let entered = over-whole entry_names enters (by-name enters (λ k. refl)) own distinct h whole in
     let at_door = over-whole entry_names doors (by-name doors (λ k. refl)) own distinct h whole in
-    let wanted : o.way < length o.door + length o.line + 1 = balanced.wanted in
+    let none_early : early o ≡ 0 = ap (early_of o.next) all.whole in
+    let wanted : o.way < length o.door + length o.line + 1 = omega (arith, balanced.wanted, none_early) in
     let held : o.held ≡ 0 = omega (arith, all.had, gained, lost, account.even) in
     let line : length o.line ≡ 0 = omega (arith, all.had, gained, lost, account.even) in
     let door : length o.door ≡ 0 = omega (arith, all.door, entered, at_door, account.entered) in

@@ -19,6 +19,7 @@ use Rattle.cqs_rule_laws.specs.Lists.{IsDistinct}
 use Rattle.cqs_rule.specs.Passes.{pass_view}
 use Rattle.cqs_rule.specs.Seats.{HasMet}
 use Rattle.cqs_rule_laws.specs.CallRule.{IsReady}
+use Rattle.cqs_semaphore_client.specs.PlainHistories.{IsPlainHistory}
 use Rattle.cqs_semaphore.specs.Calls.{IsMine}
 use Rattle.cqs_floor_shared.specs.Entries.{is_nothing, own_history}
 use Rattle.cqs_floor_shared_kinds.specs.declared.kinds.permits.SharedPermits.{SharedPermits}
@@ -94,7 +95,8 @@ module _ (x given y : SharedPermits) (same_one : y.semaphore ≡ x.semaphore)
         staying = met.prefix;
         coming = met.prefix_other;
         legal = history-of a.kind w.seen funded.sort
-            (subst (λ n. IsLegal n w.seen) (ap (λ (o : Opening). o.size) met.opening ∙ r.size_is) mine.live.legal);
+            (subst (λ n. IsLegal n w.seen) (ap (λ (o : Opening). o.size) met.opening ∙ r.size_is)
+            mine.live.legal.legal);
         mine = λ n has. ap of_permits (met.mine n (subst (Has n) (sym r.numbers) has));
         theirs = λ n has. ap of_permits (met.theirs n (subst (Has n) (sym t.numbers) has));
         number = met.number;
@@ -147,7 +149,8 @@ permits-end x k n is can =
     let r = can.funded.rests in
     let sized : v.opening.size ≡ size = r.size_is ∙ ap (λ j. size_of (Some j)) can.kind_is in
     let none = total-nothing can.a.held can.nothing in
-    let stands = rests size v.own v.seen (subst (λ m. IsLegal m v.seen) sized can.funded.mine.live.legal) r.distinct
+    let stands =
+    rests size v.own v.seen (subst (λ m. IsPlainHistory m v.seen) sized can.funded.mine.live.legal) r.distinct
     (λ m. known m (can.whole m))
     (subst (λ m. IsAccounted v.own v.seen m) (omega (arith, none, can.waitless, can.all_seen)) r.account) in
     (λ i. end.Permits ((is ∙ sym stands.free) i) (sym stands.held i) (length (sym stands.line i)))
@@ -169,7 +172,7 @@ permits-held (kind.Rounds parties rounds) sort = absurd sort
 pub permits-lawful : IsLawful share_permits
 permits-lawful = record {
   legal = λ x a funded. history-of a.kind _ funded.sort
-      (subst (λ n. IsLegal n (pass_view x.pass).seen) funded.rests.size_is funded.mine.live.legal);
+      (subst (λ n. IsLegal n (pass_view x.pass).seen) funded.rests.size_is funded.mine.live.legal.legal);
   unnamed = λ x a funded n many. some-nothing _ (funded.mine.live.unnamed n many);
   held = λ x a funded. permits-held a.kind funded.sort;
   found = λ x a job funded there.

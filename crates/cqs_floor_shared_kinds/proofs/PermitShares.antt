@@ -82,7 +82,7 @@ module _ (x y : SharedPermits) (same_one : y.semaphore ≡ x.semaphore)
         ∙ mine.live.unnamed n (subst (λ p. p ≤ n) (sym went.same.passes) many)));
     legal = history-of a.kind w.seen funded.sort
         (subst (λ n. IsLegal n w.seen) (ap (λ (o : Opening). o.size) went.same.opening ∙ funded.rests.size_is)
-        went.legal);
+        went.legal.legal);
     same = record {
       number = went.same.number;
       met = ap (λ (own : List ℕ). drop 1 own) went.same.own;

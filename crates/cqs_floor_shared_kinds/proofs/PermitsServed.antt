@@ -13,7 +13,7 @@ use Rattle.cqs_core.specs.Numbered.{IsIn}
 use Rattle.cqs_core.specs.QueueLine.{Service, Waiting, in_line, is_served, line, service_of, services, stays_in_line, waiting_of}
 use Rattle.cqs_core.specs.QueueSound.{IsSoundAt}
 use Rattle.cqs_core.specs.QueueWaiters.{with_service}
-use Rattle.cqs_core.specs.SemaphoreEntries.{IsAllowed, IsLegal, after_deliver, after_enter, after_entry, object_after, turned_back}
+use Rattle.cqs_core.specs.SemaphoreEntries.{IsAllowed, after_deliver, after_enter, after_entry, has_spoiled, object_after, turned_back}
 use Rattle.cqs_core.specs.SemaphoreObject.{Semaphore, due, opening}
 use Rattle.cqs_core.specs.SemaphoreShown.{IsCore}
 use Rattle.cqs_core.specs.SemaphoreTable.{Shape}
@@ -21,13 +21,15 @@ use Rattle.cqs_core.proofs.Histories.{object-next, walk}
 use Rattle.cqs_core.proofs.LineReads.{line-keyed, served-keyed, service_wait, wait_of}
 use Rattle.cqs_core.proofs.Places.{get-below}
 use Rattle.cqs_core.proofs.Rising.{in-take}
-use Rattle.cqs_core.proofs.Waits.{IsFound, found-waits, looked_at, service_key, waiting_key}
+use Rattle.cqs_core.proofs.Waits.{IsFound, enters_by, found-waits, looked_at, service_key, waiting_key}
 use Rattle.cqs_plan.specs.FloorHistory.{of_permits}
 use Rattle.cqs_rule_laws.specs.declared.view.View.{View}
 use Rattle.cqs_rule_laws.specs.Hidden.{state_at, state_in}
 use Rattle.cqs_semaphore.specs.Causes.{CellWas}
+use Rattle.cqs_semaphore_client.specs.PlainHistories.{IsPlainHistory, IsUnbroken}
 use Rattle.cqs_semaphore_client.specs.Semaphore.{core_shown}
 use Rattle.cqs_semaphore_client.specs.SemaphorePermits.{permits_of}
+use Rattle.cqs_semaphore_client.proofs.Unbroken.{unspoiled-before}
 use Rattle.cqs_floor_shared.specs.Entries.{HasGone, IsUnserved}
 use Rattle.cqs_floor_shared_kinds.proofs.Among.{Among, among-changed, among-placed, among-push, among-without, picked-of, placed-among, pushed-among}
 
@@ -51,12 +53,18 @@ served-stays : (o : Semaphore) (e : Entry) (k : ℕ) → Among service_key k o.s
     → Among service_key k (after_entry o e).served
 served-stays o (entry.TakeNow c) k among = among
 served-stays o (entry.TakeDoor c) k among = among
-served-stays o (entry.Enter c j) k among = among
+served-stays o (entry.Enter c j) k among = go (has_spoiled j o.spoiled)
+  where
+    go : (b : Bool) → Among service_key k (enters_by o c j b).served
+    go true = among
+    go false = among
 served-stays o (entry.TryGot c) k among = among
 served-stays o (entry.TryBusy c) k among = among
 served-stays o (entry.GiveFreed c) k among = among
 served-stays o (entry.GiveSent c) k among = among
 served-stays o (entry.Deliver j) k among = with-served _ k o.served among
+served-stays o (entry.Spoil c j) k among = among
+served-stays o (entry.Undo c j) k among = among
 served-stays o (entry.Leave c j) k among = turned-served (record o { line = without waiting_key j o.line }) k among
 served-stays o (entry.Late c j) k among = among-changed service_key looked_at (λ s. refl) k j o.served among
 served-stays o (entry.LookGranted c j) k among =
@@ -84,7 +92,7 @@ abbrev IsSomewhere : ℕ → List Entry → Semaphore → Type 0
 IsSomewhere k history o =
     k < o.next → (Among waiting_key k o.line ⊎ Among service_key k o.served) ⊎ Left k history
 
-module _ (permits : ℕ) (history : List Entry) (legal : IsLegal permits history) (k : ℕ) where
+module _ (permits : ℕ) (history : List Entry) (plain : IsPlainHistory permits history) (k : ℕ) where
   at-end : (P : Semaphore → Type 0) → P (object_after permits (take (length history) history))
       → P (object_after permits history)
   at-end P is = subst (λ h. P (object_after permits h)) (take_all (length history) history (omega arith)) is
@@ -101,10 +109,10 @@ module _ (permits : ℕ) (history : List Entry) (legal : IsLegal permits history
 
       served : Among service_key k (object_after permits (take (length history) history)).served
       served =
-          walk IsAllowed after_entry (opening permits) history (λ i o. Among service_key k o.served) legal
+          walk IsAllowed after_entry (opening permits) history (λ i o. Among service_key k o.served) plain.legal
           (λ i f got allowed among. served-stays (object_after permits (take i history)) f k among) (suc m)
           (rw (object-next IsAllowed after_entry (opening permits) history m (entry.Deliver k) stands.there)
-          (served-new (object_after permits (take m history)) k (legal.at m (entry.Deliver k) stands.there)))
+          (served-new (object_after permits (take m history)) k (plain.legal.at m (entry.Deliver k) stands.there)))
           (length history - suc m) (length history) (omega (arith, within)) (omega arith)
 
   somewhere-turned : (o : Semaphore) → IsSomewhere k history o → IsSomewhere k history (turned_back o)
@@ -139,43 +147,49 @@ module _ (permits : ℕ) (history : List Entry) (legal : IsLegal permits history
       go (inr left) = inr left
 
   -- a caller came to the end of the line
-  somewhere-entered : (o : Semaphore) (c j : ℕ) → j ≡ o.next → IsSomewhere k history o
+  somewhere-entered : (o : Semaphore) (c j : ℕ) → j ≡ o.next → o.spoiled ≡ [] → IsSomewhere k history o
       → IsSomewhere k history (after_enter o c j)
-  somewhere-entered o c j next is low = go (cases_lt k o.next)
+  somewhere-entered o c j next whole is = by (has_spoiled j o.spoiled) (ap (has_spoiled j) whole)
     where
       new : Waiting
       new = record { wait = j; pass = c }
 
-      go : (k < o.next) ⊎ (o.next ≤ k)
+      go : k < o.next + 1 → (k < o.next) ⊎ (o.next ≤ k)
           → (Among waiting_key k (o.line ++ new ∷ []) ⊎ Among service_key k o.served) ⊎ Left k history
-      go (inl before) = on (is before)
+      go low (inl before) = on (is before)
         where
           on : (Among waiting_key k o.line ⊎ Among service_key k o.served) ⊎ Left k history
               → (Among waiting_key k (o.line ++ new ∷ []) ⊎ Among service_key k o.served) ⊎ Left k history
           on (inl (inl among)) = inl (inl (among-push waiting_key k new o.line among))
           on (inl (inr among)) = inl (inr among)
           on (inr left) = inr left
-      go (inr past) =
+      go low (inr past) =
           let same : j ≡ k = omega (arith, low, past, next) in
           inl (inl (subst (λ n. Among waiting_key n (o.line ++ new ∷ [])) same (pushed-among waiting_key new o.line)))
 
+      by : (b : Bool) → b ≡ false → IsSomewhere k history (enters_by o c j b)
+      by true broken low = absurd (cc)
+      by false unbroken low = go low (cases_lt k o.next)
+
   somewhere-next : (i : ℕ) (o : Semaphore) (e : Entry) → slice_get history i ≡ Some e → IsAllowed o e
-      → IsSomewhere k history o → IsSomewhere k history (after_entry o e)
-  somewhere-next i o (entry.TakeNow c) got allowed is = is
-  somewhere-next i o (entry.TakeDoor c) got allowed is = is
-  somewhere-next i o (entry.Enter c j) got (stands, next) is = somewhere-entered o c j next is
-  somewhere-next i o (entry.TryGot c) got allowed is = is
-  somewhere-next i o (entry.TryBusy c) got allowed is = is
-  somewhere-next i o (entry.GiveFreed c) got allowed is = is
-  somewhere-next i o (entry.GiveSent c) got allowed is = is
-  somewhere-next i o (entry.Deliver j) got allowed is = go (cases_eq j k)
+      → o.spoiled ≡ [] → IsSomewhere k history o → IsSomewhere k history (after_entry o e)
+  somewhere-next i o (entry.TakeNow c) got allowed whole is = is
+  somewhere-next i o (entry.TakeDoor c) got allowed whole is = is
+  somewhere-next i o (entry.Enter c j) got (stands, next, may) whole is = somewhere-entered o c j next whole is
+  somewhere-next i o (entry.TryGot c) got allowed whole is = is
+  somewhere-next i o (entry.TryBusy c) got allowed whole is = is
+  somewhere-next i o (entry.GiveFreed c) got allowed whole is = is
+  somewhere-next i o (entry.GiveSent c) got allowed whole is = is
+  somewhere-next i o (entry.Deliver j) got allowed whole is = go (cases_eq j k)
     where
       go : (j ≡ k) ⊎ (j ≢ k) → IsSomewhere k history (after_deliver o j)
       go (inl same) low =
           inl (inr (subst (λ n. Among service_key n (after_deliver o j).served) same (served-new o j allowed)))
       go (inr other) low =
           somewhere-without o (after_deliver o j) j other refl refl (with-served _ k o.served) is low
-  somewhere-next i o (entry.Leave c j) got allowed is =
+  somewhere-next i o (entry.Spoil c j) got allowed whole is = absurd (plain.unbroken.at i (entry.Spoil c j) got)
+  somewhere-next i o (entry.Undo c j) got allowed whole is = absurd (plain.unbroken.at i (entry.Undo c j) got)
+  somewhere-next i o (entry.Leave c j) got allowed whole is =
       somewhere-turned (record o { line = without waiting_key j o.line }) (go (cases_eq j k))
     where
       go : (j ≡ k) ⊎ (j ≢ k) → IsSomewhere k history (record o { line = without waiting_key j o.line })
@@ -184,20 +198,21 @@ module _ (permits : ℕ) (history : List Entry) (legal : IsLegal permits history
       go (inr other) low =
           somewhere-without o (record o { line = without waiting_key j o.line }) j other refl refl (λ among. among)
           is low
-  somewhere-next i o (entry.Late c j) got allowed is =
+  somewhere-next i o (entry.Late c j) got allowed whole is =
       somewhere-looked o (after_entry o (entry.Late c j)) refl refl
       (among-changed service_key looked_at (λ s. refl) k j o.served) is
-  somewhere-next i o (entry.LookGranted c j) got allowed is =
+  somewhere-next i o (entry.LookGranted c j) got allowed whole is =
       somewhere-looked o (after_entry o (entry.LookGranted c j)) refl refl
       (among-changed service_key looked_at (λ s. refl) k j o.served) is
-  somewhere-next i o (entry.LookPending c j) got allowed is = is
+  somewhere-next i o (entry.LookPending c j) got allowed whole is = is
 
   -- where a wait is that was drawn
   drawn-somewhere : IsSomewhere k history (object_after permits history)
   drawn-somewhere =
       at-end (IsSomewhere k history)
-      (walk IsAllowed after_entry (opening permits) history (λ i o. IsSomewhere k history o) legal
-      (λ i f got allowed is. somewhere-next i (object_after permits (take i history)) f got allowed is) zero
+      (walk IsAllowed after_entry (opening permits) history (λ i o. IsSomewhere k history o) plain.legal
+      (λ i f got allowed is. somewhere-next i (object_after permits (take i history)) f got allowed
+      (unspoiled-before permits i history plain.unbroken) is) zero
       (λ low. absurd (omega (arith, low)))
       (length history) (length history) (omega arith) (omega arith))
 
@@ -238,7 +253,10 @@ refused-stands cells k is = go (slice_get cells k) refl is
     go None there at = absurd (cc)
     go (Some cell) there at = (cell, (there, at))
 
-module _ (s : Shape) (core : IsCore s) (k : ℕ) where
+module _ (s : Shape) (core : IsCore s) (unbroken : IsUnbroken s.history) (k : ℕ) where
+  plain : IsPlainHistory s.permits s.history
+  plain = record { legal = core.legal; unbroken = unbroken }
+
   -- what stands at the number k
   state-of : (place : ℕ) (cell : CoreCell) (c : CoreState) → k ≡ 0 + place
       → slice_get s.queue.cells place ≡ Some cell → state_at s.queue k ≡ c → cell.state ≡ c
@@ -257,10 +275,10 @@ module _ (s : Shape) (core : IsCore s) (k : ℕ) where
 
   core-unserved : (c : CoreState) → IsUnfilled c → state_at s.queue k ≡ c → IsIn (entry.Deliver k) s.history → ⊥
   core-unserved c unfilled is stands =
-      not-served c unfilled is (delivered-served s.permits s.history core.legal k stands)
+      not-served c unfilled is (delivered-served s.permits s.history plain k stands)
 
   core-gone : state_at s.queue k ≡ state.Refused → Left k s.history
-  core-gone is = go (drawn-somewhere s.permits s.history core.legal k drawn)
+  core-gone is = go (drawn-somewhere s.permits s.history plain k drawn)
     where
       its : (cell : CoreCell) × ((slice_get s.queue.cells k ≡ Some cell) × (cell.state ≡ state.Refused))
       its = refused-stands s.queue.cells k is
@@ -288,16 +306,16 @@ found-unserved : (c : CoreState) (k : ℕ) (w : View Entry (Unit {0})) → IsUnf
     → IsUnserved (of_permits w.seen) k
 found-unserved c k w unfilled cell e stands =
     let shown = cell.was.was in
-    core-unserved (core_shown (permits_of shown.client) shown.hidden shown.words cell.was.before) shown.shown k c
-    unfilled shown.holds.0
+    core-unserved (core_shown (permits_of shown.client) shown.hidden shown.words cell.was.before) shown.shown.core
+    shown.shown.unbroken k c unfilled shown.holds.0
     (subst (λ h. IsIn (entry.Deliver k) h) (cell.was.seen ∙ append-nil cell.was.before) stands)
 
 pub found-gone : (k : ℕ) (w : View Entry (Unit {0})) → CellWas state.Refused k [] w → HasGone (of_permits w.seen) k
 found-gone k w cell =
     let shown = cell.was.was in
     subst (λ h. Left k h) (sym (cell.was.seen ∙ append-nil cell.was.before))
-    (core-gone (core_shown (permits_of shown.client) shown.hidden shown.words cell.was.before) shown.shown k
-    shown.holds.0)
+    (core-gone (core_shown (permits_of shown.client) shown.hidden shown.words cell.was.before) shown.shown.core
+    shown.shown.unbroken k shown.holds.0)
 
 -- the same by how a resumption ended
 pub left-unserved : (k : ℕ) (w : View Entry (Unit {0})) → CellWas state.Empty k [] w ⊎ CellWas state.Cancelling k [] w

@@ -5,7 +5,7 @@ use Rattle.cqs_core.specs.declared.entries.Entry.{Entry}
 use Rattle.cqs_core.specs.declared.entries.Entry.TheVariants as entry
 use Rattle.cqs_floor_shared_kinds.specs.Accounts.{over}
 
--- a caller came to a permit, or to a wait for one
+-- a caller came to a permit, or to a wait for one; or took one back that was on its way
 abbrev pub gains : Entry → ℕ
 gains (entry.TakeNow c) = 1
 gains (entry.TakeDoor c) = 0
@@ -15,12 +15,14 @@ gains (entry.TryBusy c) = 0
 gains (entry.GiveFreed c) = 0
 gains (entry.GiveSent c) = 0
 gains (entry.Deliver k) = 0
+gains (entry.Spoil c k) = 1
+gains (entry.Undo c k) = 0
 gains (entry.Leave c k) = 0
 gains (entry.Late c k) = 0
 gains (entry.LookGranted c k) = 0
 gains (entry.LookPending c k) = 0
 
--- a caller gave a permit back, or its wait up
+-- a caller gave a permit back, or its wait up; or found its number broken
 abbrev pub losses : Entry → ℕ
 losses (entry.TakeNow c) = 0
 losses (entry.TakeDoor c) = 0
@@ -30,6 +32,8 @@ losses (entry.TryBusy c) = 0
 losses (entry.GiveFreed c) = 1
 losses (entry.GiveSent c) = 1
 losses (entry.Deliver k) = 0
+losses (entry.Spoil c k) = 0
+losses (entry.Undo c k) = 1
 losses (entry.Leave c k) = 1
 losses (entry.Late c k) = 0
 losses (entry.LookGranted c k) = 0
@@ -45,6 +49,8 @@ doors (entry.TryBusy c) = 0
 doors (entry.GiveFreed c) = 0
 doors (entry.GiveSent c) = 0
 doors (entry.Deliver k) = 0
+doors (entry.Spoil c k) = 0
+doors (entry.Undo c k) = 0
 doors (entry.Leave c k) = 0
 doors (entry.Late c k) = 0
 doors (entry.LookGranted c k) = 0
@@ -60,6 +66,8 @@ enters (entry.TryBusy c) = 0
 enters (entry.GiveFreed c) = 0
 enters (entry.GiveSent c) = 0
 enters (entry.Deliver k) = 0
+enters (entry.Spoil c k) = 0
+enters (entry.Undo c k) = 0
 enters (entry.Leave c k) = 0
 enters (entry.Late c k) = 0
 enters (entry.LookGranted c k) = 0

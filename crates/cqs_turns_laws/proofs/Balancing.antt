@@ -352,6 +352,7 @@ module _ (size : ℕ) (holds claims : ℕ → ℕ) (nothing : (x : ℕ) → hold
   permits-open = λ x. record {
     way = refl;
     door = refl;
+    unbroken = refl;
     eager = inr refl;
     total = omega arith;
     backed = omega (arith, nothing x);

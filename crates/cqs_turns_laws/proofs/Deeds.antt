@@ -8,7 +8,8 @@ use Rattle.cqs_core.specs.Keyed.{without}
 use Rattle.cqs_core.specs.QueueLine.{Waiting}
 use Rattle.cqs_core.specs.SemaphoreObject.{Semaphore}
 use Rattle.cqs_core.specs.SemaphoreObject as semaphore
-use Rattle.cqs_core.specs.SemaphoreEntries.{after_entry}
+use Rattle.cqs_core.specs.SemaphoreEntries.{after_entry, at_door, has_spoiled}
+use Rattle.cqs_core.proofs.Waits.{enters_by}
 use Rattle.cqs_core.proofs.Counts.{bit}
 use Rattle.cqs_pool_object.specs.declared.entries.PoolEntry.{PoolEntry}
 use Rattle.cqs_pool_object.specs.PoolObject.{Pool}
@@ -24,7 +25,7 @@ use Rattle.cqs_barrier_object.specs.BarrierEntries.{after_entry as barrier_entry
 use Rattle.cqs_barrier_object.specs.BarrierObject.{Barrier}
 use Rattle.cqs_plan.specs.FloorHistory.{History, of_permits, of_elements, of_latch, of_rounds, Deed, takes, joins, frees, sends, gets, leaves, is_late, passes, counts, opens, is_open, completes, permit_entries, element_entries, permits_after, elements_after, latch_after, barrier_after, entries_in, with_deed, with_deed_in, standing, standing_in, came_for}
 use Rattle.cqs_turns_report.proofs.ToCome.{latch_then, barrier_then, latch-then, barrier-then}
-use Rattle.cqs_turns_laws.proofs.Lines.{in_line, line-longer, line-joined, line-fewer, turned-line, turned-next}
+use Rattle.cqs_turns_laws.proofs.Lines.{in_line, joins-line, joins-next, line-longer, line-joined, line-fewer, turned-line, turned-next, turned-spoiled}
 use Rattle.cqs_plan.proofs.PoolSeats.{AreSeated, came_in, came-closed, came-delivered-else, came-delivered-here, seated-closed, seated-delivered, seated-entered, seated-left}
 use Rattle.cqs_turns_laws.proofs.DeedParts.{HasPart, is_of_pool, round_now}
 
@@ -77,7 +78,7 @@ elements-then size entries deed =
 next-permits : (o : Semaphore) (deed : Deed)
     → (fold after_entry o (permit_entries deed)).next ≡ o.next + draws false deed
 next-permits o (takes e) = omega arith
-next-permits o (joins k) = refl
+next-permits o (joins k) = joins-next o k
 next-permits o (frees e) = omega arith
 next-permits o (sends e k) = omega arith
 next-permits o (gets k e) = omega arith
@@ -178,7 +179,11 @@ standing-away size (of_rounds all) round r deed part own other =
 line-permits : (o : Semaphore) (deed : Deed) (k : ℕ) → IsElse o.next k deed → in_line k o.line ≡ true
     → in_line k (fold after_entry o (permit_entries deed)).line ≡ true
 line-permits o (takes e) k other stands = stands
-line-permits o (joins j) k other stands = line-longer k o.line (record { wait = j; pass = 0 }) stands
+line-permits o (joins j) k other stands = go (has_spoiled j o.spoiled)
+  where
+    go : (b : Bool) → in_line k (enters_by (at_door o 0) 0 j b).line ≡ true
+    go true = stands
+    go false = line-longer k o.line (record { wait = j; pass = 0 }) stands
 line-permits o (frees e) k other stands = stands
 line-permits o (sends e j) k other stands = line-fewer k j o.line other stands
 line-permits o (gets j e) k other stands = stands
@@ -257,28 +262,30 @@ line-after size (of_rounds all) round deed k part other stands =
     ap (λ (o : Barrier). in_line k o.waiters.line) (round-then size all round deed part)
     ∙ line-barrier (barrier_after size (entries_in all round)) deed k other stands
 
--- who joins it stands there
-pub line-joins : (size : ℕ) (h : History) (round k : ℕ) → HasPart h round
-    → in_line k (standing_in size (with_deed_in size h round (joins k)) round).line ≡ true
-line-joins size (of_permits entries) round k part =
-    ap (λ (o : Semaphore). in_line k o.line) (permits-then size entries (joins k))
-    ∙ line-joined k (permits_after size entries).line (record { wait = k; pass = 0 }) refl
-line-joins size (of_elements entries) round k part =
-    ap (λ (o : Pool). in_line k o.line) (elements-then size entries (joins k))
-    ∙ line-joined k (elements_after size entries).line (record { wait = k; pass = 0 }) refl
-line-joins size (of_latch entries) round k part =
-    ap (λ (o : Latch). in_line k o.waiters.line) (latch-then size entries (joins k))
-    ∙ line-joined k (latch_after size entries).waiters.line (record { wait = k; pass = 0 }) refl
-line-joins size (of_rounds all) round k part =
-    ap (λ (o : Barrier). in_line k o.waiters.line) (round-then size all round (joins k) part)
-    ∙ line-joined k (barrier_after size (entries_in all round)).waiters.line (record { wait = k; pass = 0 }) refl
-
--- the numbers of a pool are its waits' own; a semaphore's don't matter here
+-- the numbers of a pool are its waits' own, and none of a semaphore is broken
 abbrev pub HasSeats : ℕ → History → Type 0
-HasSeats size (of_permits entries) = Unit {0}
+HasSeats size (of_permits entries) = (permits_after size entries).spoiled ≡ []
 HasSeats size (of_elements entries) = AreSeated (elements_after size entries)
 HasSeats size (of_latch entries) = Unit {0}
 HasSeats size (of_rounds all) = Unit {0}
+
+-- who joins the line stands there
+pub line-joins : (size : ℕ) (h : History) (round k : ℕ) → HasPart h round → HasSeats size h
+    → in_line k (standing_in size (with_deed_in size h round (joins k)) round).line ≡ true
+line-joins size (of_permits entries) round k part seated =
+    let o : Semaphore = permits_after size entries in
+    ap (λ (o : Semaphore). in_line k o.line) (permits-then size entries (joins k))
+    ∙ ap (λ (o : Semaphore). in_line k o.line) (joins-line o k seated)
+    ∙ line-joined k o.line (record { wait = k; pass = 0 }) refl
+line-joins size (of_elements entries) round k part seated =
+    ap (λ (o : Pool). in_line k o.line) (elements-then size entries (joins k))
+    ∙ line-joined k (elements_after size entries).line (record { wait = k; pass = 0 }) refl
+line-joins size (of_latch entries) round k part seated =
+    ap (λ (o : Latch). in_line k o.waiters.line) (latch-then size entries (joins k))
+    ∙ line-joined k (latch_after size entries).waiters.line (record { wait = k; pass = 0 }) refl
+line-joins size (of_rounds all) round k part seated =
+    ap (λ (o : Barrier). in_line k o.waiters.line) (round-then size all round (joins k) part)
+    ∙ line-joined k (barrier_after size (entries_in all round)).waiters.line (record { wait = k; pass = 0 }) refl
 
 -- who joins has the next number
 abbrev pub JoinsNext : ℕ → Deed → Type 0
@@ -311,9 +318,26 @@ seats-elements o opens fits seated = seated
 seats-elements o is_open fits seated = seated
 seats-elements o completes fits seated = seated
 
+seats-permits : (o : Semaphore) (deed : Deed) → o.spoiled ≡ []
+    → (fold after_entry o (permit_entries deed)).spoiled ≡ []
+seats-permits o (takes e) none = none
+seats-permits o (joins k) none = ap (λ (o : Semaphore). o.spoiled) (joins-line o k none) ∙ none
+seats-permits o (frees e) none = none
+seats-permits o (sends e k) none = none
+seats-permits o (gets k e) none = none
+seats-permits o (leaves k) none = turned-spoiled (record o { line = without (λ w. w.wait) k o.line }) ∙ none
+seats-permits o (is_late k e) none = none
+seats-permits o passes none = none
+seats-permits o (counts n) none = none
+seats-permits o opens none = none
+seats-permits o is_open none = none
+seats-permits o completes none = none
+
 pub seats-after : (size : ℕ) (h : History) (round : ℕ) (deed : Deed) → JoinsNext (standing_in size h round).next deed
     → HasSeats size h → HasSeats size (with_deed_in size h round deed)
-seats-after size (of_permits entries) round deed fits seated = tt
+seats-after size (of_permits entries) round deed fits seated =
+    ap (λ (o : Semaphore). o.spoiled) (permits-then size entries deed)
+    ∙ seats-permits (permits_after size entries) deed seated
 seats-after size (of_elements entries) round deed fits seated =
     subst AreSeated (sym (elements-then size entries deed))
     (seats-elements (elements_after size entries) deed fits seated)

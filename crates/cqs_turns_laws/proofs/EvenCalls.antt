@@ -16,7 +16,6 @@ use Rattle.cqs_turns_report.specs.Roles.{wait_at}
 use Rattle.cqs_turns_laws.proofs.DeedParts.{IsOfKind}
 use Rattle.cqs_turns_laws.proofs.Evening.{IsEven, completes-even, counts-even, held-even, joins-even, late-even, latch-joins, leaves-even, open-even, opens-even, passes-even}
 use Rattle.cqs_turns_laws.proofs.HeldKinds.{IsHeld}
-use Rattle.cqs_turns_laws.proofs.Funds.{counts}
 use Rattle.cqs_turns_laws.proofs.Lifting.{HasWait}
 use Rattle.cqs_turns_laws.proofs.Objects.{history-here, history-else}
 

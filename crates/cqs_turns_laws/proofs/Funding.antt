@@ -191,7 +191,7 @@ module _ (resources : List Resource) (f : PlainFloor) (lines : List Line) (lined
       ≡ claims_in q line test f.waits + bit (is_claim q line test new)
       = λ q line test. count-set (λ w. is_claim q line test w) f.waits job (wait_of f job) new None below refl in
       let none_new : (x : ℕ) → bit (is_claim at joined (came_as then x) new) ≡ 0
-      = λ x. ap bit (claim-none at 0 k joined (came_as then x) (line-joins size h 0 k part)) in
+      = λ x. ap bit (claim-none at 0 k joined (came_as then x) (line-joins size h 0 k part (lined.seated at))) in
       funded-on (joins k) _ _ f.holds f.rounds
       (joins-funds size (holds_in pool at f.holds) (claims_on pool at size h f.waits) _ _ h k none (λ x. refl)
       (λ x. omega (

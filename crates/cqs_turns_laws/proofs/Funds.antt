@@ -101,6 +101,7 @@ module _ (size : ℕ) (holds claims holds' claims' : ℕ → ℕ) where
     permits-less o x funds = record {
       way = funds.way;
       door = funds.door;
+      unbroken = funds.unbroken;
       eager = funds.eager;
       total = funds.total;
       backed = omega (arith, funds.backed, more x);
@@ -124,6 +125,7 @@ module _ (size : ℕ) (holds claims holds' claims' : ℕ → ℕ) where
         (record {
           way = less.way;
           door = less.door;
+          unbroken = less.unbroken;
           eager = less.eager;
           total = less.total;
           backed = less.backed;
@@ -146,6 +148,7 @@ module _ (size : ℕ) (holds claims holds' claims' : ℕ → ℕ) where
         (record {
           way = less.way;
           door = less.door;
+          unbroken = less.unbroken;
           eager = less.eager;
           total = less.total;
           backed = less.backed;

@@ -6,7 +6,7 @@ use Rattle.std.proofs.lemmas.List.Folds.{list_any-append}
 use Rattle.cqs_core.specs.Keyed.{without}
 use Rattle.cqs_core.specs.QueueLine.{Waiting}
 use Rattle.cqs_core.specs.SemaphoreObject.{Semaphore}
-use Rattle.cqs_core.specs.SemaphoreEntries.{after_entry}
+use Rattle.cqs_core.specs.SemaphoreEntries.{after_entry, at_door, has_spoiled}
 use Rattle.cqs_pool_object.specs.PoolObject.{Pool}
 use Rattle.cqs_latch_object.specs.declared.entries.LatchEntry.TheVariants as latch
 use Rattle.cqs_latch_object.specs.LatchEntries.{after_entry as latch_entry}
@@ -20,6 +20,7 @@ use Rattle.cqs_turns_report.proofs.ToCome.{latch_then, barrier_then, latch-then}
 use Rattle.cqs_turns_laws.proofs.DeedParts.{HasPart, part-kept}
 use Rattle.cqs_turns_laws.proofs.Deeds.{JoinsNext, elements-then, next-after, permits-then, pool_then, round-then, standing-away}
 use Rattle.cqs_turns_laws.proofs.Lined.{changed_floor}
+use Rattle.cqs_core.proofs.Waits.{enters_by}
 use Rattle.cqs_turns_laws.proofs.Lines.{in_line, turned-line}
 use Rattle.cqs_turns_laws.proofs.Objects.{history-here, history-else, standing-here, standing-else}
 
@@ -48,8 +49,11 @@ gone-fewer k n (w ∷ line) gone =
 gone-permits : (o : Semaphore) (deed : Deed) (k : ℕ) → JoinsNext o.next deed → k ≢ o.next → in_line k o.line ≡ false
     → in_line k (fold after_entry o (permit_entries deed)).line ≡ false
 gone-permits o (takes e) k fits other gone = gone
-gone-permits o (joins j) k fits other gone =
-    gone-longer k o.line (record { wait = j; pass = 0 }) (λ same. other (sym same ∙ fits)) gone
+gone-permits o (joins j) k fits other gone = go (has_spoiled j o.spoiled)
+  where
+    go : (b : Bool) → in_line k (enters_by (at_door o 0) 0 j b).line ≡ false
+    go true = gone
+    go false = gone-longer k o.line (record { wait = j; pass = 0 }) (λ same. other (sym same ∙ fits)) gone
 gone-permits o (frees e) k fits other gone = gone
 gone-permits o (sends e j) k fits other gone = gone-fewer k j o.line gone
 gone-permits o (gets j e) k fits other gone = gone

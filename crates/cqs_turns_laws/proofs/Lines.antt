@@ -1,5 +1,5 @@
 -- The line of a resource: who stands in it, and still does when others come and go.
-use Rattle.std.proofs.Common.{◌≡◌, ◌≢◌, ◌⊎◌, inl, inr, ℕ, List, [], ◌∷◌, ◌++◌, Bool, true, false, ◌||◌, ◌==◌, refl, sym, ◌∙◌, eq-eqb, ne_eqb, eqb-true}
+use Rattle.std.proofs.Common.{◌≡◌, ◌≢◌, ◌⊎◌, inl, inr, ℕ, ◌+◌, List, [], ◌∷◌, ◌++◌, Bool, true, false, ◌||◌, ◌==◌, refl, sym, ap, ◌∙◌, eq-eqb, ne_eqb, eqb-true}
 use Rattle.std.specs.List.{list_any}
 use Rattle.std.specs.Bool.{if◌then◌else◌}
 use Rattle.std.proofs.lemmas.Bool.{cases_eq}
@@ -7,7 +7,8 @@ use Rattle.std.proofs.lemmas.List.Folds.{list_any-append}
 use Rattle.cqs_core.specs.Keyed.{without}
 use Rattle.cqs_core.specs.QueueLine.{Waiting}
 use Rattle.cqs_core.specs.SemaphoreObject.{Semaphore}
-use Rattle.cqs_core.specs.SemaphoreEntries.{turned_back}
+use Rattle.cqs_core.specs.SemaphoreEntries.{after_enter, at_door, has_spoiled, turned_back}
+use Rattle.cqs_core.proofs.Waits.{enters_by}
 
 -- the wait of this number stands in the line
 abbrev pub in_line : ℕ → List Waiting → Bool
@@ -71,3 +72,23 @@ turned-line o = if-line _ _ o refl
 
 pub turned-next : (o : Semaphore) → (turned_back o).next ≡ o.next
 turned-next o = if-next _ _ o refl
+
+if-spoiled : (b : Bool) (x o : Semaphore) → x.spoiled ≡ o.spoiled → (if b then x else o).spoiled ≡ o.spoiled
+if-spoiled true x o same = same
+if-spoiled false x o same = refl
+
+pub turned-spoiled : (o : Semaphore) → (turned_back o).spoiled ≡ o.spoiled
+turned-spoiled o = if-spoiled _ _ o refl
+
+-- where no number is broken, who comes by the door joins the line
+pub joins-line : (o : Semaphore) (k : ℕ) → o.spoiled ≡ []
+    → after_enter (at_door o 0) 0 k ≡ enters_by (at_door o 0) 0 k false
+joins-line o k none = ap (λ spoiled. enters_by (at_door o 0) 0 k (has_spoiled k spoiled)) none
+
+-- and in any case has the next number
+pub joins-next : (o : Semaphore) (k : ℕ) → (after_enter (at_door o 0) 0 k).next ≡ o.next + 1
+joins-next o k = go (has_spoiled k o.spoiled)
+  where
+    go : (b : Bool) → (enters_by (at_door o 0) 0 k b).next ≡ o.next + 1
+    go true = refl
+    go false = refl

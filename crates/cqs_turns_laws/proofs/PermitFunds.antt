@@ -1,15 +1,17 @@
 -- What one event does to the funds of a semaphore: its free permits, those held, and who may claim them.
-use Rattle.std.proofs.Common.{◌≡◌, ◌≢◌, ◌⊎◌, inl, inr, ℕ, ◌+◌, ◌-◌, ◌<◌, ◌≤◌, nat_lt, Bool, true, false, List, [], refl, ltb-true, arith}
+use Rattle.std.proofs.Common.{◌≡◌, ◌≢◌, ◌⊎◌, inl, inr, ℕ, ◌+◌, ◌-◌, ◌<◌, ◌≤◌, nat_lt, Bool, true, false, List, [], refl, sym, subst, ltb-true, arith}
 use Rattle.cqs_core.specs.Keyed.{without}
 use Rattle.cqs_core.specs.QueueLine.{Waiting}
 use Rattle.cqs_core.specs.SemaphoreObject.{Semaphore, due}
 use Rattle.cqs_core.specs.SemaphoreEntries.{after_take, at_door, after_enter, after_deliver, after_leave, after_look, turned_back}
+use Rattle.cqs_turns_laws.proofs.Lines.{joins-line}
 
--- No permit is on its way and nobody is at the door; somebody waits only where none is free; the permits are all there,
--- and those held are enough for what the jobs hold and for what came to their waits.
+-- No permit is on its way, nobody is at the door, and no number is broken; somebody waits only where none is free;
+-- the permits are all there, and those held are enough for what the jobs hold and for what came to their waits.
 pub record ArePermitFunds (size : ℕ) (o : Semaphore) (held claims : ℕ) : Type 0 where
   pub way : o.way ≡ 0
   pub door : o.door ≡ []
+  pub unbroken : o.spoiled ≡ []
   pub eager : (o.free ≡ 0) ⊎ (o.line ≡ [])
   pub total : o.held + o.free ≡ size
   pub backed : held + claims ≤ o.held
@@ -23,6 +25,7 @@ pub funds-taken : (size : ℕ) (o : Semaphore) (h c h' : ℕ) → 0 < o.free →
 funds-taken size o h c h' some more funds = record {
   way = funds.way;
   door = funds.door;
+  unbroken = funds.unbroken;
   eager = none-waits o.free (o.free - 1) o.line (omega arith) funds.eager;
   total = omega (arith, funds.total, some);
   backed = omega (arith, funds.backed, more);
@@ -30,19 +33,22 @@ funds-taken size o h c h' some more funds = record {
 
 pub funds-joined : (size : ℕ) (o : Semaphore) (h c c' k : ℕ) → o.free ≡ 0 → c' ≤ c → ArePermitFunds size o h c
     → ArePermitFunds size (after_enter (at_door o 0) 0 k) h c'
-funds-joined size o h c c' k none fewer funds = record {
-  way = funds.way;
-  door = rw funds.door refl;
-  eager = inl none;
-  total = funds.total;
-  backed = omega (arith, funds.backed, fewer);
-}
+funds-joined size o h c c' k none fewer funds =
+    subst (λ o. ArePermitFunds size o h c') (sym (joins-line o k funds.unbroken)) (record {
+      way = funds.way;
+      door = rw funds.door refl;
+      unbroken = funds.unbroken;
+      eager = inl none;
+      total = funds.total;
+      backed = omega (arith, funds.backed, fewer);
+    })
 
 pub funds-freed : (size : ℕ) (o : Semaphore) (h c h' : ℕ) → o.line ≡ [] → h' + 1 ≡ h → ArePermitFunds size o h c
     → ArePermitFunds size (record o { held = o.held - 1; free = o.free + 1 }) h' c
 funds-freed size o h c h' empty less funds = record {
   way = funds.way;
   door = funds.door;
+  unbroken = funds.unbroken;
   eager = inr empty;
   total = omega (arith, funds.total, funds.backed, less);
   backed = omega (arith, funds.backed, less);
@@ -58,6 +64,7 @@ pub funds-sent : (size : ℕ) (o : Semaphore) (h c h' c' k : ℕ) → o.line ≢
 funds-sent size o h c h' c' k some less claims funds = record {
   way = omega (arith, funds.way);
   door = funds.door;
+  unbroken = funds.unbroken;
   eager = inl (none-free o.free o.line some funds.eager);
   total = omega (arith, funds.total, funds.backed, less);
   backed = omega (arith, funds.backed, less, claims);
@@ -68,6 +75,7 @@ pub funds-closed : (size : ℕ) (o : Semaphore) (h c h' c' k : ℕ) → h' ≡ h
 funds-closed size o h c h' c' k more less funds = record {
   way = funds.way;
   door = funds.door;
+  unbroken = funds.unbroken;
   eager = funds.eager;
   total = funds.total;
   backed = omega (arith, funds.backed, more, less);
@@ -92,6 +100,7 @@ funds-left size o h c c' k fewer funds =
     rw (stays-away (record o { line = without (λ w. w.wait) k o.line }) funds.way) (record {
       way = funds.way;
       door = funds.door;
+      unbroken = funds.unbroken;
       eager = fewer-wait o.free k o.line funds.eager;
       total = funds.total;
       backed = omega (arith, funds.backed, fewer);
@@ -102,6 +111,7 @@ pub funds-same : (size : ℕ) (o : Semaphore) (h c h' c' : ℕ) → h' ≡ h →
 funds-same size o h c h' c' same fewer funds = record {
   way = funds.way;
   door = funds.door;
+  unbroken = funds.unbroken;
   eager = funds.eager;
   total = funds.total;
   backed = omega (arith, funds.backed, same, fewer);

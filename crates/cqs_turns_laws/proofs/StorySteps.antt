@@ -16,7 +16,6 @@ use Rattle.cqs_plan.specs.declared.floors.answers.FloorLeave.TheVariants as leav
 use Rattle.cqs_plan.specs.PlanSteps.{may_wait}
 use Rattle.cqs_plan.specs.Floor.{round_of}
 use Rattle.cqs_core.specs.Keyed.{without}
-use Rattle.cqs_plan.specs.declared.plans.kind.Kind.TheVariants as kind
 use Rattle.cqs_plan.specs.FloorCalls.{take_answer, give_answer, down_answer, wait_answer, arrive_answer, look_answer, leave_answer, after_give, after_look}
 use Rattle.cqs_plan.specs.Runnable.{AreMakeable, kinds_of}
 use Rattle.cqs_turns_report.specs.declared.lines.Told.{Told}
@@ -28,7 +27,7 @@ use Rattle.cqs_turns_report.specs.declared.states.Progress.{Progress}
 use Rattle.cqs_turns_report.specs.declared.states.Progress.TheVariants.{Stepping, Working, Waiting, Ended}
 use Rattle.cqs_turns_report.specs.Ready.{IsReady, CanRetry, CanRetryIn, wait_in, steps_left, is_held, held_next, with_place}
 use Rattle.cqs_turns_report.specs.Roles.{wait_at, is_holdable_at, left_with}
-use Rattle.cqs_turns_report.specs.Turns.{Role, Scene, Acted, event, take_told, give_told, leave_told, down_told, wait_told, arrive_told, on_take, on_give, on_down, on_wait, on_arrive, on_leave, on_retry, after_gives, after_coming, stop_or, after_steps, after_last_step, after_giving_up, after_leave_at, after_look_at, after_looking, after_retrying, after_waiting_long, after_acting, is_due, is_over_time, may_retry, retries, moved, retried, patience_after, end_of, places_held, left_at, go_on}
+use Rattle.cqs_turns_report.specs.Turns.{Role, Scene, Acted, event, take_told, give_told, leave_told, down_told, wait_told, arrive_told, on_take, on_give, on_down, on_wait, on_arrive, on_leave, on_retry, after_gives, after_coming, stop_or, after_steps, after_last_step, after_giving_up, after_leave_at, after_look_at, after_looking, after_retrying, after_waiting_long, after_acting, is_over_time, may_retry, retries, moved, retried, patience_after, end_of, places_held, left_at, go_on}
 use Rattle.cqs_turns_report.proofs.Readied.{first-given, first-ready, leave-held, leave-ready, look-held, after_looking-ready, can-give, on_arrive-held, on_down-held, on_give-left, on_wait-held}
 use Rattle.cqs_turns_report.proofs.Stepping.{after_step-ready}
 use Rattle.cqs_turns_laws.specs.Events.{Line}

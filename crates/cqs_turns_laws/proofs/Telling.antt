@@ -342,7 +342,7 @@ module _ (plan : Plan) (r : Role) (actor : IsActor plan r) (s : Scene) (lines : 
     expects-new : Expects plan.resources after (lines ++ line ∷ []) new
     expects-new =
         inl (ap (λ (x : Standing). in_line k x.line) (standing-here f at round (joins k) round there)
-        ∙ line-joins (size_at f at) (history_at f at) round k part)
+        ∙ line-joins (size_at f at) (history_at f at) round k part (tells.lined.seated at))
 
     expects-of : (j : ℕ) (w : JobWait)
         → ((j ≡ r.place) × (w ≡ new)) ⊎ (wait_of f j ≡ Some w)
@@ -593,8 +593,8 @@ no-numbers size round (kind.Rounds parties rounds) =
     ap (λ entries. (standing_in size (of_rounds (entries ∷ [])) 0).next) (one-value rounds round [])
 
 no-seats : (size : ℕ) (k : Kind) → HasSeats size (no_history k)
-no-seats size (kind.Semaphore permits) = tt
-no-seats size kind.Mutex = tt
+no-seats size (kind.Semaphore permits) = refl
+no-seats size kind.Mutex = refl
 no-seats size (kind.Pool elements) = record { once = λ k. omega arith; later = λ k high. refl }
 no-seats size (kind.Latch count) = tt
 no-seats size (kind.Rounds parties rounds) = tt
@@ -640,7 +640,7 @@ opening-tells plan = record {
     kinds = opening-kinds plan.resources;
     sorts = opening-sorts plan.resources;
     seated = λ q. opening-history (λ h. HasSeats (size_at (opening_floor plan) q) h)
-        (no-seats (size_at (opening_floor plan) q)) tt plan.resources q;
+        (no-seats (size_at (opening_floor plan) q)) refl plan.resources q;
     expects = λ j w has. absurd (nobody-waits plan j w has);
     parts = λ j w has. absurd (nobody-waits plan j w has);
     below = λ j w has. absurd (nobody-waits plan j w has);

@@ -11,8 +11,9 @@ use Rattle.cqs_core.specs.declared.entries.Entry.{Entry}
 use Rattle.cqs_core.specs.declared.entries.Entry.TheVariants as permit
 use Rattle.cqs_core.specs.SemaphoreNames.{entry_names as permit_names}
 use Rattle.cqs_core.specs.SemaphoreObject.{Semaphore, opening, due}
-use Rattle.cqs_core.specs.SemaphoreEntries.{IsAllowed, IsLegal, after_entry, object_after, turned_back}
+use Rattle.cqs_core.specs.SemaphoreEntries.{IsAllowed, IsLegal, after_entry, object_after, turned_back, has_spoiled}
 use Rattle.cqs_core.proofs.Histories.{walk, take-next}
+use Rattle.cqs_core.proofs.Waits.{enters_by}
 use Rattle.cqs_core.proofs.Places.{get-below, get-push_at, get-append_below}
 use Rattle.cqs_work.specs.declared.waits.Waited.{Waited}
 use Rattle.cqs_work.specs.Noted.{Draw, draw_of, draws, told_at, as_draw}
@@ -57,6 +58,13 @@ turned-next o = go (nat_lt (due o) o.way)
     go true = refl
     go false = refl
 
+entered-next : (o : Semaphore) (c k : ℕ) → (after_entry o (permit.Enter c k)).next ≡ o.next + 1
+entered-next o c k = go (has_spoiled k o.spoiled)
+  where
+    go : (b : Bool) → (enters_by o c k b).next ≡ o.next + 1
+    go true = refl
+    go false = refl
+
 -- an entry of a legal history
 counted-same : (h : List Entry) (e : Entry) (o p : Semaphore) → draw_of e ≡ None → p.next ≡ o.next
     → AreCounted (draws h) o.next → AreCounted (draws (h ++ e ∷ [])) p.next
@@ -65,10 +73,10 @@ counted-same h e o p none same are =
 
 counted-entry : (h : List Entry) (e : Entry) (o : Semaphore) → IsAllowed o e → AreCounted (draws h) o.next
     → AreCounted (draws (h ++ e ∷ [])) (after_entry o e).next
-counted-entry h (permit.Enter c k) o (stands, next) are =
+counted-entry h (permit.Enter c k) o (stands, next, may) are =
     let more : draws (h ++ permit.Enter c k ∷ []) ≡ draws h ++ record { pass = c; number = k } ∷ []
     = filter_map-append draw_of h (permit.Enter c k ∷ []) in
-    rw more (counted-push (draws h) o.next c k are next)
+    rw (more, entered-next o c k) (counted-push (draws h) o.next c k are next)
 counted-entry h (permit.TakeNow c) o allowed are = counted-same h (permit.TakeNow c) o
     (after_entry o (permit.TakeNow c)) refl refl are
 counted-entry h (permit.TakeDoor c) o allowed are = counted-same h (permit.TakeDoor c) o
@@ -83,6 +91,10 @@ counted-entry h (permit.GiveSent c) o allowed are = counted-same h (permit.GiveS
     (after_entry o (permit.GiveSent c)) refl refl are
 counted-entry h (permit.Deliver k) o allowed are = counted-same h (permit.Deliver k) o
     (after_entry o (permit.Deliver k)) refl refl are
+counted-entry h (permit.Spoil c k) o allowed are = counted-same h (permit.Spoil c k) o
+    (after_entry o (permit.Spoil c k)) refl refl are
+counted-entry h (permit.Undo c k) o allowed are = counted-same h (permit.Undo c k) o
+    (after_entry o (permit.Undo c k)) refl refl are
 counted-entry h (permit.Leave c k) o allowed are =
     counted-same h (permit.Leave c k) o (after_entry o (permit.Leave c k)) refl
     (turned-next (record o { line = without (λ w. w.wait) k o.line })) are
@@ -143,6 +155,8 @@ draws-part c (permit.TryBusy p ∷ h) = part-none c (permit.TryBusy p) h refl (d
 draws-part c (permit.GiveFreed p ∷ h) = part-none c (permit.GiveFreed p) h refl (draws-part c h)
 draws-part c (permit.GiveSent p ∷ h) = part-none c (permit.GiveSent p) h refl (draws-part c h)
 draws-part c (permit.Deliver k ∷ h) = part-none c (permit.Deliver k) h refl (draws-part c h)
+draws-part c (permit.Spoil p k ∷ h) = part-none c (permit.Spoil p k) h refl (draws-part c h)
+draws-part c (permit.Undo p k ∷ h) = part-none c (permit.Undo p k) h refl (draws-part c h)
 draws-part c (permit.Leave p k ∷ h) = part-none c (permit.Leave p k) h refl (draws-part c h)
 draws-part c (permit.Late p k ∷ h) = part-none c (permit.Late p k) h refl (draws-part c h)
 draws-part c (permit.LookGranted p k ∷ h) = part-none c (permit.LookGranted p k) h refl (draws-part c h)

@@ -12,11 +12,13 @@ use Rattle.cqs_pool_object.specs.PoolNames.{entry_names as element_names}
 use Rattle.cqs_pool_object.specs.PoolObject.{Pool}
 use Rattle.cqs_pool_object.specs.PoolEntries.{IsLegal as IsLegalPool, object_after as pool_after}
 
--- the entries by which a caller comes to something: a permit, or a number in the line
+-- the entries by which a caller comes to something: a permit, which it may have taken back, or a
+-- number
 abbrev pub permit_gains : Entry → ℕ
 permit_gains (permit.TakeNow c) = 1
 permit_gains (permit.TryGot c) = 1
 permit_gains (permit.Enter c k) = 1
+permit_gains (permit.Spoil c k) = 1
 permit_gains entry = 0
 
 -- and those by which it has it no more
@@ -24,6 +26,7 @@ abbrev pub permit_losses : Entry → ℕ
 permit_losses (permit.GiveFreed c) = 1
 permit_losses (permit.GiveSent c) = 1
 permit_losses (permit.Leave c k) = 1
+permit_losses (permit.Undo c k) = 1
 permit_losses entry = 0
 
 -- those by which it comes to the door, and those by which it goes on from there
@@ -58,12 +61,13 @@ pub record NamesBelow {E : Type 0} (names : ℕ → E → Bool) (callers : ℕ) 
     : Type 0 where
   pub at : (n c : ℕ) (e : E) → slice_get history n ≡ Some e → names c e ≡ true → c < callers
 
--- nothing is held, on its way, at the door or in the line
+-- nothing is held, on its way, at the door, in the line or broken
 pub record IsQuiet (o : Semaphore) : Type 0 where
   pub held : o.held ≡ 0
   pub way : o.way ≡ 0
   pub door : o.door ≡ []
   pub line : o.line ≡ []
+  pub spoiled : o.spoiled ≡ []
 
 -- nothing is held or in the line
 pub record IsQuietPool (o : Pool) : Type 0 where

@@ -5,14 +5,14 @@ use Rattle.cqs_floor_alone_kinds.proofs.queue_sole.QueueSoleSoleSemaphore.stand.
 
 pub stand_of-requires-clause-least : goal.stand_of-requires-clause-least
 stand_of-requires-clause-least c =
-    state-least _ _ _ _ c.requires.1.funded.rests c.requires.1.funded.mine.live.legal
+    state-least _ _ _ _ c.requires.1.funded.rests c.requires.1.funded.mine.live.legal.legal
 
 pub stand_of-requires-clause-most : goal.stand_of-requires-clause-most
 stand_of-requires-clause-most c =
-    state-most _ _ _ _ c.requires.1.funded.rests c.requires.1.funded.mine.live.legal
+    state-most _ _ _ _ c.requires.1.funded.rests c.requires.1.funded.mine.live.legal.legal
 
 pub returns : goal.returns
 returns c =
-    one-tells semaphore_pass (λ x mine. mine.live.legal) _ _ _ c.stand_of.ensures.mine refl refl
+    one-tells semaphore_pass (λ x mine. mine.live.legal.legal) _ _ _ c.stand_of.ensures.mine refl refl
     c.stand_of.ensures.called c.stand_of.ensures.rests
     c.stand_of.ensures.free c.stand_of.ensures.line

@@ -8,18 +8,21 @@ use Rattle.cqs_cli.specs.Words.{IsRun, IsSomeStudy, Reads as ReadsAlone}
 use Rattle.cqs_cli.specs.declared.kept.Kept.{Kept as KeptAlone}
 use Rattle.cqs_cli.specs.declared.kept.Kept.TheVariants as alone_kept
 use Rattle.cqs_floor_shared.specs.Shared.{Shared}
+use Rattle.cqs_plan.specs.declared.plans.plan.Plan.{Plan}
+use Rattle.cqs_work.specs.declared.plans.Worked.{Worked as WorkedOn}
 use Rattle.cqs_cli_top.specs.Commands.{commands_over}
 use Rattle.cqs_cli_top.specs.declared.kept.Kept.{Kept}
 use Rattle.cqs_cli_top.specs.declared.kept.Kept.TheVariants.{Nothing}
 use Rattle.cqs_cli_top.specs.KeptWorks.{alone_of}
 use Rattle.cqs_cli_top.specs.Words.{IsSomeWork, ReadsPlan}
 
-pub of_alone : {S K F : Type 0} (shared : F → Shared) (of_source : Source S) (of_sink : Sink K)
+pub of_alone : {S K F : Type 0} (shared : F → Shared) (Leaves : Plan → List Shared → WorkedOn F → Type 0)
+    (of_source : Source S) (of_sink : Sink K)
     (words : List (List ℕ)) (source source_after : S) (sink sink_after : K) (run : KeptAlone) (kept : Kept F)
     (status : ℕ) → ¬ IsSomeWork words → alone_of kept ≡ run → (run ≡ alone_kept.Nothing → kept ≡ Nothing)
     → IsCallOf alone.commands of_source of_sink words source source_after sink sink_after run status
-    → IsCallOf (commands_over shared) of_source of_sink words source source_after sink sink_after kept status
-of_alone shared of_source of_sink words source source_after sink sink_after run kept status other is nothing
+    → IsCallOf (commands_over shared Leaves) of_source of_sink words source source_after sink sink_after kept status
+of_alone shared Leaves of_source of_sink words source source_after sink sink_after run kept status other is nothing
     call = record {
       headline = λ zero. let told = call.headline zero in (inl told.0, told.1);
       no_command = λ two.

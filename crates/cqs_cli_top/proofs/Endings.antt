@@ -20,6 +20,8 @@ use Rattle.cqs_cli.proofs.MeaningLemmas.{all_statuses, stops-once}
 use Rattle.cqs_cli.proofs.PlanLemmas.{plan_has_no_fault}
 use Rattle.cqs_cli.proofs.WordLemmas.{begun-is-no-study}
 use Rattle.cqs_floor_shared.specs.Shared.{Shared}
+use Rattle.cqs_plan.specs.declared.plans.plan.Plan.{Plan}
+use Rattle.cqs_work.specs.declared.plans.Worked.{Worked as WorkedOn}
 use Rattle.cqs_cli_top.specs.Commands.{commands_over}
 use Rattle.cqs_cli_top.specs.declared.kept.Kept.{Kept}
 use Rattle.cqs_cli_top.specs.declared.kept.Kept.TheVariants.{Nothing}
@@ -36,7 +38,8 @@ work-is-no-study workers words work some = elim work.spelled [
   | inr more ↦ begun-is-no-study words (codes "--workers" ∷ decimal workers ∷ []) more some
 ]
 
-module _ {S K F : Type 0} (shared : F → Shared) (of_source : Source S) (of_sink : Sink K) (workers : ℕ)
+module _ {S K F : Type 0} (shared : F → Shared) (Leaves : Plan → List Shared → WorkedOn F → Type 0)
+    (of_source : Source S) (of_sink : Sink K) (workers : ℕ)
     (source source_after : S) (sink sink_after : K) (kept kept_after : Kept F) where
   open of_source use {left, faults as source_faults, tally}
   open of_sink use {held, is_flushed, faults as sink_faults, tally as sink_tally}
@@ -44,7 +47,7 @@ module _ {S K F : Type 0} (shared : F → Shared) (of_source : Source S) (of_sin
   -- a verdict that is right, and was told with this status
   abbrev Ends : Verdict → ℕ → Type 0
   Ends given status =
-      IsVerdict shared left source_faults workers given source source_after kept kept_after
+      IsVerdict shared Leaves left source_faults workers given source source_after kept kept_after
       × Tells of_sink given status sink sink_after
 
   -- no fault came in this call
@@ -65,7 +68,7 @@ module _ {S K F : Type 0} (shared : F → Shared) (of_source : Source S) (of_sin
 
   -- with status 0 the whole text was written of what is kept
   pub kept_done : (given : Verdict) (status : ℕ) → Ends given status → status ≡ 0
-      → KeptWork shared workers (left source) (left source_after) kept_after
+      → KeptWork shared Leaves workers (left source) (left source_after) kept_after
       (λ text. Wrote of_sink text sink sink_after)
   kept_done (verdict.Report text) status ((calm, read), inl (is, wrote)) zero =
       record { bytes = read.bytes; input = read.input; text = text.items; worked = read.right; holds = wrote }
@@ -88,7 +91,7 @@ module _ {S K F : Type 0} (shared : F → Shared) (of_source : Source S) (of_sin
           bytes = done.bytes;
           input = done.input;
           text = done.text;
-          worked = of-kept shared done.bytes workers done.text kept_after done.worked;
+          worked = of-kept shared Leaves done.bytes workers done.text kept_after done.worked;
           written = done.holds.whole;
         },
         done.holds.flushed,
@@ -106,7 +109,7 @@ module _ {S K F : Type 0} (shared : F → Shared) (of_source : Source S) (of_sin
       due = (
         read.bytes,
         read.input,
-        inl (of-kept shared read.bytes workers text.items kept_after read.right),
+        inl (of-kept shared Leaves read.bytes workers text.items kept_after read.right),
       );
       prefix = broke.prefix;
       counted = broke.counted;
@@ -132,7 +135,7 @@ module _ {S K F : Type 0} (shared : F → Shared) (of_source : Source S) (of_sin
 
   -- where the sink failed, that is kept whose text broke off, and nothing where the input is no plan
   pub kept_broken : (given : Verdict) (status : ℕ) → Ends given status → kept ≡ Nothing → status ≡ 5
-      → KeptWork shared workers (left source) (left source_after) kept_after
+      → KeptWork shared Leaves workers (left source) (left source_after) kept_after
       (λ text. Broke of_sink text sink sink_after)
       ⊎ ((kept_after ≡ Nothing) × IsNoPlan (left source) (left source_after))
   kept_broken (verdict.Report text) status ((calm, read), inr (is, broke)) empty five = inl (record {
@@ -224,7 +227,8 @@ module _ {S K F : Type 0} (shared : F → Shared) (of_source : Source S) (of_sin
       → GivesAtMost (LONGEST_INPUT + 1) (left source) (left source_after)
       → HasTaken given (tally source) (tally source_after) → kept ≡ Nothing
       → (words : List (List ℕ)) → IsWork workers words
-      → IsCallOf (commands_over shared) of_source of_sink words source source_after sink sink_after kept_after status
+      → IsCallOf (commands_over shared Leaves) of_source of_sink words source source_after sink sink_after kept_after
+      status
   is_call given status ended taken counted empty words asked = record {
     headline = λ zero. let told = headline given status ended zero in (inr (workers, (asked, told.0)), told.1);
     no_command = search rules;

@@ -11,7 +11,7 @@ use Rattle.cqs_cli_top.specs.declared.kept.Kept.{Kept}
 use Rattle.cqs_cli_top.specs.KeptWorks.{kept_limited}
 use Rattle.cqs_cli_top.specs.Words.{IsLimit}
 
--- of which requests of a worker a gate is told that does nothing: of all
+-- of which calls or requests of a worker a gate is told that does nothing: of all
 abbrev pub all_told : ℕ → ℕ → Bool
 all_told worker request = true
 
@@ -28,4 +28,4 @@ module _ {S K : Type 0} (told : ℕ → ℕ → Bool) (source : Source S) (sink 
       (kept : Kept (Ledger AnyShared)) (status : ℕ) : Type 0 where
     pub limit : IsLimit words → IsLimitOn before after old new kept status
     pub other : ¬ IsLimit words
-        → IsCallOf commands source sink words before after old new kept status
+        → IsCallOf (commands told) source sink words before after old new kept status

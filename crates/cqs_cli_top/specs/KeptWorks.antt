@@ -28,13 +28,17 @@ abbrev pub kept_limited : {F : Type 0} → Option LimitedOn → Kept F
 kept_limited (Some limited) = Limited limited
 kept_limited None = Nothing
 
-module _ {F : Type 0} (shared : F → Shared) where
+-- `Leaves` says what else holds of what workers left who began on these floors, as the type of a
+-- floor and the gate tell it.
+module _ {F : Type 0} (shared : F → Shared)
+    (Leaves : Plan → List Shared → WorkedOn F → Type 0) where
   -- what is kept is what so many workers left of this plan, and the text is that of it
   pub record KeepsWork (plan : Plan) (workers : ℕ) (text : List ℕ) (kept : Kept F) : Type 0 where
     pub worked : WorkedOn F
     pub is : kept ≡ Worked worked
     pub done : HaveWorked plan workers worked.ends worked.waits (shared worked.floor)
     pub made : text ≡ work_text plan worked.ends worked.waits (shared worked.floor)
+    pub leaves : Leaves plan done.floors worked
 
   -- the bytes are a plan, and what is kept is what the workers left of it, with this text
   pub record IsWorkKept (bytes : List ℕ) (workers : ℕ) (text : List ℕ) (kept : Kept F)

@@ -8,14 +8,17 @@ use Rattle.cqs_cli.specs.Plans.{IsFaultLine}
 use Rattle.cqs_cli.specs.declared.verdict.Verdict.{Verdict}
 use Rattle.cqs_cli.specs.declared.verdict.Verdict.TheVariants as verdict
 use Rattle.cqs_floor_shared.specs.Shared.{Shared}
+use Rattle.cqs_plan.specs.declared.plans.plan.Plan.{Plan}
+use Rattle.cqs_work.specs.declared.plans.Worked.{Worked as WorkedOn}
 use Rattle.cqs_cli_top.specs.declared.kept.Kept.{Kept}
 use Rattle.cqs_cli_top.specs.KeptWorks.{IsWorkKept}
 
-module _ {F : Type 0} (shared : F → Shared) where
+module _ {F : Type 0} (shared : F → Shared)
+    (Leaves : Plan → List Shared → WorkedOn F → Type 0) where
   -- the verdict on the bytes of an input, and what is kept with it
   abbrev pub IsVerdictOn : List ℕ → ℕ → Verdict → Kept F → Kept F → Type 0
   IsVerdictOn bytes workers (verdict.Report text) old new =
-      IsWorkKept shared bytes workers text.items new
+      IsWorkKept shared Leaves bytes workers text.items new
   IsVerdictOn bytes workers (verdict.NoPlan line) old new =
       IsFaultLine bytes line.items × (new ≡ old)
   IsVerdictOn bytes workers verdict.NoMemory old new = new ≡ old

@@ -7,7 +7,8 @@ use Rattle.cqs_floor_shared.specs.Shared.{Shared}
 use Rattle.cqs_floor_shared_queue.specs.Openings.{AreLimits}
 use Rattle.cqs_work.specs.declared.ends.JobEnd.{JobEnd}
 use Rattle.cqs_work.specs.Opening.{AreSplit}
-use Rattle.cqs_work.specs.Worked.{AreBounded, AreQuiet, AreTold, AreWaits, HaveAllIn}
+use Rattle.cqs_work.specs.Drawn.{AreFew}
+use Rattle.cqs_work.specs.Worked.{AreBounded, AreQuiet, AreTold, AreUncrowded, AreWaits, HaveAllIn}
 use Rattle.cqs_work.specs.declared.waits.WaitLine.{WaitLine}
 use Rattle.cqs_cli_top.specs.WorkText.{work_text}
 
@@ -31,6 +32,10 @@ pub record HaveWorked (plan : Plan) (workers : ℕ) (ends : List JobEnd) (waits 
   -- each worker's takes of a semaphore are at least those of its jobs that are done, and at most
   -- all take steps of its jobs
   pub bounds : AreBounded plan floors last ends
+  -- at each resource no more numbers were drawn, at a barrier in one round, than the plan's jobs
+  -- may begin to wait there; so no job is crowded
+  pub few : AreFew plan last
+  pub uncrowded : AreUncrowded plan ends
   -- at each semaphore and mutex nothing is held, on its way, at the door or in line, and at each
   -- pool no element is held and nobody is in line
   pub quiet : AreQuiet last

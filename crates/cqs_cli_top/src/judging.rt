@@ -6,6 +6,8 @@ ghost use Rattle.cqs_cli_streams.specs.Stream.{GivesAtMost};
 ghost use Rattle.cqs_cli.specs.Verdicts.{HasTaken};
 ghost use Rattle.cqs_floor_shared_any.specs.AnyShares.{share_any};
 ghost use Rattle.cqs_floor_shared_queue.specs.Ledgers.{shared_in};
+ghost use Rattle.cqs_work.specs.Gated.{told_by};
+ghost use Rattle.cqs_cli_top.specs.Commands.{LeavesAll};
 ghost use Rattle.cqs_cli_top.specs.KeptWorks.{KeepsWork};
 ghost use Rattle.cqs_cli_top.specs.Verdicts.{IsVerdict, IsVerdictOn};
 
@@ -15,7 +17,7 @@ use crate::texts::work_text;
 use cqs_cli::Verdict;
 use cqs_cli_streams::{LONGEST_INPUT, ReadError, Source, read_input};
 use cqs_core::Memory;
-use cqs_floor_shared_queue::shared_floors;
+use cqs_floor_shared_queue::{shared_floors, tell_passes};
 use cqs_plan::{Plan, PlanError, fault_line};
 use cqs_plan_reader::read_plan;
 use cqs_work::{Gate, work_plan};
@@ -34,8 +36,8 @@ pub fn judge<R: Threads + Wait + Sync, S: Source, G: Gate + Sync>(
     kept: &mut Kept<SharedQueueFloor>,
 ) -> Verdict
     requires { (1 ≤ workers) × (workers ≤ 16) }
-    ensures right { IsVerdict (shared_in share_any) S.left S.faults workers result
-        source.old source.new kept.old kept.new }
+    ensures right { IsVerdict (shared_in share_any) (LeavesAll (told_by G.begun G.ended gate.now))
+        S.left S.faults workers result source.old source.new kept.old kept.new }
     ensures taken { GivesAtMost (LONGEST_INPUT + 1) (S.left source.old) (S.left source.new) }
     ensures counted { HasTaken result (S.tally source.old) (S.tally source.new) }
 {
@@ -58,7 +60,8 @@ fn judge_input<R: Threads + Wait + Sync, G: Gate + Sync>(
     kept: &mut Kept<SharedQueueFloor>,
 ) -> Verdict
     requires { (1 ≤ workers) × (workers ≤ 16) }
-    ensures { IsVerdictOn (shared_in share_any) bytes.now workers result kept.old kept.new }
+    ensures { IsVerdictOn (shared_in share_any) (LeavesAll (told_by G.begun G.ended gate.now))
+        bytes.now workers result kept.old kept.new }
 {
     match answer(rt, alloc, bytes, workers, gate, kept) {
         Ok(verdict) => verdict,
@@ -76,7 +79,8 @@ fn answer<R: Threads + Wait + Sync, G: Gate + Sync>(
 ) -> Result<Verdict, Memory>
     requires { (1 ≤ workers) × (workers ≤ 16) }
     ensures right { IfOk result
-        (λ verdict. IsVerdictOn (shared_in share_any) bytes.now workers verdict kept.old kept.new) }
+        (λ verdict. IsVerdictOn (shared_in share_any) (LeavesAll (told_by G.begun G.ended gate.now))
+        bytes.now workers verdict kept.old kept.new) }
     ensures err { OnErr result (kept.new ≡ kept.old) }
 {
     match read_plan(alloc, bytes) {
@@ -105,12 +109,14 @@ fn text_of<R: Threads + Wait + Sync, G: Gate + Sync>(
     requires sized { AreSized plan.now.resources }
     requires workers { (1 ≤ workers) × (workers ≤ 16) }
     ensures keeps { IfOk result
-        (λ text. KeepsWork (shared_in share_any) plan.now workers text.items kept.new) }
+        (λ text. KeepsWork (shared_in share_any) (LeavesAll (told_by G.begun G.ended gate.now))
+        plan.now workers text.items kept.new) }
     ensures err { OnErr result (kept.new ≡ kept.old) }
 {
     let floors = shared_floors(alloc, plan, workers)?;
     let mut worked = work_plan(rt, alloc, plan, floors, gate)?;
     let text = work_text(rt, alloc, plan, &mut worked)?;
+    tell_passes(&worked.floor);
     keep_work(kept, worked);
     Ok(text)
 }

@@ -26,7 +26,9 @@ use std::thread::Threads;
 /// then means of all other words than those of `work` what it means there; or the words ask for
 /// workers, and the text that was written, whole and flushed, is that of what so many left of the
 /// plan that was read: each worker's jobs ended as the turn machine says over answers that stand in
-/// legal histories.
+/// legal histories. No job is crowded; of each call of a worker the gate was told before and after,
+/// though not that it was just around the call; and of each resource the floor that is kept has the
+/// one pass that is left.
 ///
 /// Of the word of `limit` it is that of `limit` of `cqs_cli_limits`: the bytes read are requests of
 /// tenants, and the text that was written is that of one thread that asks line after line, read off
@@ -67,8 +69,8 @@ fn top_for_plans<R: Threads + Wait + Sync, S: Source, K: Sink, G: Gate + Sync>(
     kept: &mut Kept<SharedQueueFloor>,
 ) -> u8
     requires empty { kept.old ≡ Nothing }
-    ensures { IsCallOf commands S.Source K.Sink (map string_bytes words.now)
-        source.old source.new sink.old sink.new kept.new result }
+    ensures { IsCallOf (commands (told_by G.begun G.ended gate.now)) S.Source K.Sink
+        (map string_bytes words.now) source.old source.new sink.old sink.new kept.new result }
 {
     match workers_of(words) {
         Some(workers) => work(rt, alloc, workers, source, sink, gate, kept),

@@ -2,6 +2,7 @@
 
 ghost use Rattle.std.specs.Prelude.{◌≡◌, ℕ, ◌≤◌, List};
 ghost use Rattle.cqs_cli.specs.Contract.{IsCallOf};
+ghost use Rattle.cqs_work.specs.Gated.{told_by};
 ghost use Rattle.cqs_cli_top.specs.Commands.{commands};
 ghost use Rattle.cqs_cli_top.specs.Words.{IsWork};
 ghost use Rattle.cqs_cli_top.specs.declared.kept.Kept.TheVariants.{Nothing};
@@ -30,8 +31,8 @@ pub fn work<R: Threads + Wait + Sync, S: Source, K: Sink, G: Gate + Sync>(
     requires workers { (1 ≤ workers) × (workers ≤ 16) }
     requires empty { kept.old ≡ Nothing }
     ensures { (words : List (List ℕ)) → IsWork workers words
-        → IsCallOf commands S.Source K.Sink words source.old source.new sink.old sink.new kept.new
-        result }
+        → IsCallOf (commands (told_by G.begun G.ended gate.now)) S.Source K.Sink words
+        source.old source.new sink.old sink.new kept.new result }
 {
     let verdict = judge(rt, alloc, workers, source, gate, kept);
     tell(sink, &verdict)

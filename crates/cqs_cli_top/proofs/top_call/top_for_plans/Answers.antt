@@ -2,13 +2,16 @@
 use Rattle.std.proofs.Common.{rules}
 use Rattle.cqs_floor_shared_any.specs.AnyShares.{share_any}
 use Rattle.cqs_floor_shared_queue.specs.Ledgers.{shared_in}
+use Rattle.cqs_work.specs.Gated.{told_by}
+use Rattle.cqs_cli_top.specs.Commands.{LeavesAll}
 use Rattle.cqs_cli_top.proofs.Alone.{of_alone}
 use Rattle.cqs_cli_top.proofs.top_call.top_for_plans.Goals as goal
 
 pub returns-in-None : goal.returns-in-None
 returns-in-None g c =
     let call =
-    of_alone (shared_in share_any) g.S.Source g.K.Sink _ _ _ _ _ _ _ _ c.in-None.ensures c.kept_alone.ensures.is
+    of_alone (shared_in share_any) (LeavesAll (told_by g.G.Gate.begun g.G.Gate.ended c.args.gate.now))
+    g.S.Source g.K.Sink _ _ _ _ _ _ _ _ c.in-None.ensures c.kept_alone.ensures.is
     c.kept_alone.ensures.nothing c.top_alone-status.ensures.call in
     search rules
 

@@ -3,7 +3,11 @@
 #![tactic(auto)]
 
 #[cfg(test)]
+mod barriers_that_sleep;
+#[cfg(test)]
 mod items_of_a_pool;
+#[cfg(test)]
+mod latches_that_sleep;
 #[cfg(test)]
 mod locks_by_future;
 #[cfg(test)]

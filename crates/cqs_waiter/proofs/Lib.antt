@@ -1,4 +1,6 @@
 mod Arriving
 mod ItemWaits
+mod LatchWaits
 mod Locks
+mod PartyWaits
 mod PermitWaits

@@ -6,3 +6,5 @@ pub mod Locks
 pub mod LockFutures
 pub mod Takes
 pub mod TakeFutures
+pub mod Passages
+pub mod Meetings

@@ -15,10 +15,16 @@
 //!  look, pending: yields         look, pending: pauses; after some looks it parks
 //!                                on the cell of the wait, until it is served
 //! ```
+//!
+//! A caller at a latch and a party at a barrier wait in the second way: by `wait_open`, which comes
+//! back when the latch was opened, and by `arrive_wait`, which comes back when all have arrived.
+//! All these calls look by one rule, `Looks`.
 #![tactic(auto)]
 
 mod acquire_future;
+mod barriers;
 mod blocking;
+mod latches;
 mod lock_future;
 mod locking;
 mod looks;
@@ -26,8 +32,11 @@ mod take_future;
 mod taking;
 
 pub use acquire_future::{AcquireFuture, Acquisition};
+pub use barriers::{Passage, arrive_wait};
 pub use blocking::acquire_wait;
+pub use latches::wait_open;
 pub use lock_future::{LockFuture, LockOutcome};
 pub use locking::lock_wait;
+pub use looks::{LOOKS, Looks};
 pub use take_future::{TakeFuture, TakeOutcome};
 pub use taking::take_wait;

@@ -1,9 +1,9 @@
-//! The looks that a caller makes before it sleeps.
+//! The looks that a caller makes at its wait before it sleeps, or before others may run.
 
 ghost use Rattle.std.specs.Prelude.{◌≡◌, ◌+◌, ◌<◌, true, IsTrue};
 ghost use mathlib.Core.Logic.{◌↔◌};
 
-use std::hint;
+use std::{hint, thread};
 
 /// So many looks, with a pause of the processor between two. Who holds what is waited for is often
 /// at work on another processor and soon done, and to sleep and be woken takes some microseconds.
@@ -14,21 +14,25 @@ use std::hint;
 ///
 /// The processor isn't given away between two looks: where others have work for it, they would
 /// have it for a whole slice of time, and all who wait behind the caller would wait for that.
-const LOOKS: u32 = 2048;
+pub const LOOKS: u32 = 2048;
 
-/// How many looks are left.
+/// The rule by which a caller looks: so many looks, and then it sleeps (`once_more`); or, where it
+/// may not sleep, another thread may run, and it looks as often again (`go_on`).
 #[derive(Drop)]
-pub(crate) struct Looks {
+pub struct Looks {
     left: u32,
 }
 
 impl Looks {
-    pub(crate) fn new() -> Looks {
+    /// All looks are left.
+    pub fn new() -> Looks
+        ensures { result.left ≡ 2048 }
+    {
         Looks { left: LOOKS }
     }
 
     /// Whether the caller looks once more before it sleeps: then the processor has paused.
-    pub(crate) fn once_more(&mut self) -> bool
+    pub fn once_more(&mut self) -> bool
         ensures some { (result ≡ true) ↔ (0 < self.old.left) }
         ensures fewer { IsTrue result → self.new.left + 1 ≡ self.old.left }
     {
@@ -38,5 +42,17 @@ impl Looks {
         self.left -= 1;
         hint::spin_loop();
         true
+    }
+
+    /// What a caller does between two looks who may not sleep: the processor pauses, or, once all
+    /// looks were made, another thread may run, and as many looks are left again.
+    pub fn go_on(&mut self)
+        ensures fewer { 0 < self.old.left → self.new.left + 1 ≡ self.old.left }
+        ensures anew { self.old.left ≡ 0 → self.new.left ≡ 2048 }
+    {
+        if !self.once_more() {
+            thread::yield_now();
+            self.left = LOOKS;
+        }
     }
 }

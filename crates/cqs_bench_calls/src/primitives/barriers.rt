@@ -2,14 +2,16 @@
 //! of its own, which was made before.
 
 ghost use Rattle.std.specs.Arc.{arc_value};
-ghost use Rattle.std.specs.Prelude.{All, IfOk, OnOk};
+ghost use Rattle.std.specs.Prelude.{◌<◌, All, IfOk, OnOk};
+ghost use Rattle.cqs_rule.specs.Passes.{pass_view};
 ghost use Rattle.cqs_bench_calls.specs.Four.{AllFour};
 ghost use Rattle.cqs_bench_calls.specs.Idle.{IsIdleAtBarrier, WaitsAtBarrier};
 
 use crate::primitives::rows::nanoseconds_since;
-use crate::primitives::waiting::{Four, Waiting, pause};
+use crate::primitives::waiting::{Four, Waiting};
 use cqs_barrier::{Arrived, Barrier, BarrierPass, PartyPolled, PartyWait};
 use cqs_rule::Config;
+use cqs_waiter::{Looks, Passage, arrive_wait};
 use std::alloc::Global;
 use std::rt::Clock;
 use std::sync::{Arc, Wait};
@@ -66,29 +68,27 @@ fn look_on(barrier: &Barrier, pass: &mut BarrierPass, wait: PartyWait) -> bool
     requires waits { WaitsAtBarrier barrier.now wait pass.old }
 {
     let mut wait = wait;
-    for look in 0..u64::MAX {
+    let mut looks = Looks::new();
+    for _ in 0..u64::MAX {
         match barrier.poll(pass, wait) {
             PartyPolled::Through => return true,
             PartyPolled::Pending(again) => wait = again,
         }
-        pause(look);
+        looks.go_on();
     }
     false
 }
 
-// Sleeps until the wait was served.
-fn sleep_on<R: Wait>(rt: &R, barrier: &Barrier, pass: &mut BarrierPass, wait: PartyWait) -> bool
-    requires waits { WaitsAtBarrier barrier.now wait pass.old }
+// Arrives, and waits for the last by looks.
+fn arrive_by_looks(barrier: &Barrier, pass: &mut BarrierPass) -> bool
+    requires idle { IsIdleAtBarrier barrier.now pass.old }
+    requires holds { 0 < (pass_view pass.old).facts.has.held }
 {
-    let mut wait = wait;
-    for _ in rt.forever() {
-        match barrier.poll(pass, wait) {
-            PartyPolled::Through => return true,
-            PartyPolled::Pending(again) => wait = again,
-        }
-        barrier.park_wait(rt, pass, &wait);
+    match barrier.arrive(pass) {
+        Ok(Arrived::Last) => true,
+        Ok(Arrived::Later(wait)) => look_on(barrier, pass, wait),
+        _ => false,
     }
-    unreachable!()
 }
 
 // Arrives, and waits for the last. It answers whether all went as it should.
@@ -98,13 +98,9 @@ fn round<R: Wait>(rt: &R, barrier: &Barrier, pass: &mut BarrierPass, waiting: Wa
     if pass.held() == 0 {
         return false;
     }
-    match barrier.arrive(pass) {
-        Ok(Arrived::Last) => true,
-        Ok(Arrived::Later(wait)) => match waiting {
-            Waiting::Looks => look_on(barrier, pass, wait),
-            Waiting::Sleeps => sleep_on(rt, barrier, pass, wait),
-        },
-        _ => false,
+    match waiting {
+        Waiting::Looks => arrive_by_looks(barrier, pass),
+        Waiting::Sleeps => matches!(arrive_wait(rt, barrier, pass), Ok(Passage::Through)),
     }
 }
 

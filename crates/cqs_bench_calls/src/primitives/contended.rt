@@ -6,10 +6,10 @@ ghost use Rattle.cqs_rule.specs.Waits.{HasWait};
 ghost use Rattle.cqs_semaphore.specs.Callers.{IsIdle, IsHolder};
 
 use crate::primitives::rows::nanoseconds_since;
-use crate::primitives::waiting::{Waiting, pause, work};
+use crate::primitives::waiting::{Waiting, work};
 use cqs_rule::{Config, Wait};
 use cqs_semaphore::{Acquired, Permit, Polled, Released, SemPass, Semaphore};
-use cqs_waiter::acquire_wait;
+use cqs_waiter::{Looks, acquire_wait};
 use std::alloc::Global;
 use std::rt::Clock;
 use std::sync::Wait as MayWait;
@@ -32,12 +32,13 @@ fn look_on(semaphore: &Semaphore, pass: &mut SemPass, wait: Wait) -> Option<Perm
     ensures holder { IfSome result (λ _. IsHolder semaphore.now pass.new) }
 {
     let mut wait = wait;
-    for look in 0..u64::MAX {
+    let mut looks = Looks::new();
+    for _ in 0..u64::MAX {
         match semaphore.poll(pass, wait) {
             Polled::Granted(permit) => return Some(permit),
             Polled::Pending(again) => wait = again,
         }
-        pause(look);
+        looks.go_on();
     }
     None
 }

@@ -7,9 +7,10 @@ ghost use Rattle.cqs_bench_calls.specs.Four.{AllFour};
 ghost use Rattle.cqs_bench_calls.specs.Idle.{IsIdleAtLatch, WaitsAtLatch};
 
 use crate::primitives::rows::nanoseconds_since;
-use crate::primitives::waiting::{Four, Waiting, pause};
+use crate::primitives::waiting::{Four, Waiting};
 use cqs_latch::{Down, Latch, LatchPass, LatchPolled, LatchWait};
 use cqs_rule::{CancelMode, Config, Wait};
+use cqs_waiter::{Looks, wait_open};
 use std::alloc::Global;
 use std::rt::Clock;
 use std::sync::{Arc, Wait as MayWait};
@@ -63,29 +64,26 @@ fn look_on(latch: &Latch, pass: &mut LatchPass, wait: Wait) -> bool
     requires waits { WaitsAtLatch latch.now wait pass.old }
 {
     let mut wait = wait;
-    for look in 0..u64::MAX {
+    let mut looks = Looks::new();
+    for _ in 0..u64::MAX {
         match latch.poll(pass, wait) {
             LatchPolled::Through => return true,
             LatchPolled::Pending(again) => wait = again,
         }
-        pause(look);
+        looks.go_on();
     }
     false
 }
 
-// Sleeps until the wait was served.
-fn sleep_on<R: MayWait>(rt: &R, latch: &Latch, pass: &mut LatchPass, wait: Wait) -> bool
-    requires waits { WaitsAtLatch latch.now wait pass.old }
+// Waits by looks until the latch is open.
+fn wait_by_looks(latch: &Latch, pass: &mut LatchPass) -> bool
+    requires idle { IsIdleAtLatch latch.now pass.old }
 {
-    let mut wait = wait;
-    for _ in rt.forever() {
-        match latch.poll(pass, wait) {
-            LatchPolled::Through => return true,
-            LatchPolled::Pending(again) => wait = again,
-        }
-        latch.park_wait(rt, pass, &wait);
+    match latch.wait(pass) {
+        Ok(LatchWait::Passed) => true,
+        Ok(LatchWait::Later(wait)) => look_on(latch, pass, wait),
+        Err(_) => false,
     }
-    unreachable!()
 }
 
 // Counts down, and waits until the latch is open. It answers whether all went as it should.
@@ -97,13 +95,9 @@ fn round<R: MayWait>(rt: &R, latch: &Latch, pass: &mut LatchPass, waiting: Waiti
         Ok(Down::Last) => {}
         _ => return false,
     }
-    match latch.wait(pass) {
-        Ok(LatchWait::Passed) => true,
-        Ok(LatchWait::Later(wait)) => match waiting {
-            Waiting::Looks => look_on(latch, pass, wait),
-            Waiting::Sleeps => sleep_on(rt, latch, pass, wait),
-        },
-        Err(_) => false,
+    match waiting {
+        Waiting::Looks => wait_by_looks(latch, pass),
+        Waiting::Sleeps => wait_open(rt, latch, pass).is_ok(),
     }
 }
 

@@ -8,9 +8,9 @@ ghost use Rattle.cqs_mailbox.specs.Calls.{KeepsWaits};
 ghost use Rattle.cqs_mailbox.specs.Mailboxes.{IsDeskOf, line_view};
 
 use crate::primitives::rows::nanoseconds_since;
-use crate::primitives::waiting::pause;
 use cqs_mailbox::{Desk, Envelope, Mailbox, Post, PostWait, Received, Room, RoomPolled};
 use cqs_pool::Placed;
+use cqs_waiter::Looks;
 use std::alloc::Global;
 use std::rt::Clock;
 use std::sync::Wait as MayWait;
@@ -153,7 +153,8 @@ fn look_on<R: MayWait>(
     ensures spare { IfSome result (λ envelope. HasSpare mailbox.now envelope sender.new.post) }
 {
     let mut wait = wait;
-    for look in 0..u64::MAX {
+    let mut looks = Looks::new();
+    for _ in 0..u64::MAX {
         if !give_one(rt, mailbox, sender) {
             return None;
         }
@@ -161,7 +162,7 @@ fn look_on<R: MayWait>(
             RoomPolled::Granted(envelope) => return Some(envelope),
             RoomPolled::Pending(again) => wait = again,
         }
-        pause(look);
+        looks.go_on();
     }
     None
 }
@@ -197,14 +198,15 @@ fn send_one<R: MayWait>(rt: &R, mailbox: &Mailbox, sender: &mut Sender) -> bool
 fn give_all<R: MayWait>(rt: &R, mailbox: &Mailbox, sender: &mut Sender) -> bool
     requires rest { IsAtRest mailbox.now sender.old.post }
 {
-    for look in 0..u64::MAX {
+    let mut looks = Looks::new();
+    for _ in 0..u64::MAX {
         if sender.out == 0 {
             return true;
         }
         if !give_one(rt, mailbox, sender) {
             return false;
         }
-        pause(look);
+        looks.go_on();
     }
     false
 }
@@ -227,11 +229,12 @@ fn receive_one<R: MayWait>(rt: &R, mailbox: &Mailbox, desk: &mut Desk) -> bool
     requires desk { IsDeskOf mailbox.now desk.old }
     ensures desk { IsDeskOf mailbox.now desk.new }
 {
-    for look in 0..u64::MAX {
+    let mut looks = Looks::new();
+    for _ in 0..u64::MAX {
         if receive(rt, mailbox, desk) {
             return true;
         }
-        pause(look);
+        looks.go_on();
     }
     false
 }

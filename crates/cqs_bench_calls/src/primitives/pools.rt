@@ -8,11 +8,11 @@ ghost use Rattle.cqs_pool_values.specs.Items.{number_of};
 ghost use Rattle.cqs_bench_calls.specs.Idle.{IsIdleAtPool, HasInHand};
 
 use crate::primitives::rows::nanoseconds_since;
-use crate::primitives::waiting::{Waiting, pause, work};
+use crate::primitives::waiting::{Waiting, work};
 use cqs_pool::Placed;
 use cqs_pool_values::{Item, ItemPolled, ItemTaking, ValuePass, ValuePool};
 use cqs_rule::{Config, Wait};
-use cqs_waiter::take_wait;
+use cqs_waiter::{Looks, take_wait};
 use std::alloc::Global;
 use std::rt::Clock;
 use std::sync::Wait as MayWait;
@@ -39,12 +39,13 @@ fn look_on(pool: &ValuePool<u64>, pass: &mut ValuePass<u64>, wait: Wait) -> Opti
     ensures came { IfSome result (λ item. HasInHand pool.now (number_of item) pass.new) }
 {
     let mut wait = wait;
-    for look in 0..u64::MAX {
+    let mut looks = Looks::new();
+    for _ in 0..u64::MAX {
         match pool.poll(pass, wait) {
             ItemPolled::Granted(item) => return Some(item),
             ItemPolled::Pending(again) => wait = again,
         }
-        pause(look);
+        looks.go_on();
     }
     None
 }

@@ -1,13 +1,11 @@
 //! How those wait who have to, and the work that they make with what came.
 
-use std::thread;
-
 /// How a caller waits.
 #[derive(Clone, Copy, Drop)]
 pub enum Waiting {
-    /// It looks, and lets another thread run after each 64 looks.
+    /// It looks, by the rule of `cqs_waiter` for a caller who may not sleep.
     Looks,
-    /// It sleeps until it was served.
+    /// It looks, and then sleeps until it was served.
     Sleeps,
 }
 
@@ -24,19 +22,8 @@ impl Waiting {
 /// Of each of four threads one.
 pub type Four<T> = ((T, T), (T, T));
 
-// After so many looks at a wait another thread may run.
-const LOOKS: u64 = 64;
-
 // So many steps of work are made with what came.
 const STEPS: u32 = 100;
-
-/// What comes after the look of this number.
-#[inline(always)]
-pub fn pause(look: u64) {
-    if look % LOOKS == LOOKS - 1 {
-        thread::yield_now();
-    }
-}
 
 /// Steps of xorshift, which never come to 0.
 pub fn work(seed: u64) -> u64 {

@@ -1,6 +1,0 @@
-use Rattle.cqs_bench_calls.specs.Idle.{WaitsAtBarrier}
-use Rattle.cqs_bench_calls.proofs.primitives.barriers.sleep_on.Given as goal
-
--- between two looks the wait goes on
-abbrev pub invariant-loop : goal.invariant-loop
-invariant-loop g l = WaitsAtBarrier l.barrier l.wait l.pass

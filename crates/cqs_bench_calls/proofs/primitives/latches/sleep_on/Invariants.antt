@@ -1,6 +1,0 @@
-use Rattle.cqs_bench_calls.specs.Idle.{WaitsAtLatch}
-use Rattle.cqs_bench_calls.proofs.primitives.latches.sleep_on.Given as goal
-
--- between two looks the wait goes on
-abbrev pub invariant-loop : goal.invariant-loop
-invariant-loop g l = WaitsAtLatch l.latch l.wait l.pass

@@ -369,6 +369,7 @@ module _ {E S : Type 0} (object : Object E) (primitive : Primitive E S) (passes 
           own = refl;
           crew = refl;
           alone = refl;
+          made = refl;
           drawn = refl;
           limit = refl;
           cells = refl;

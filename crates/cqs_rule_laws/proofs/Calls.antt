@@ -21,6 +21,7 @@ module _ {E S : Type 0} where
     own = refl;
     crew = refl;
     alone = refl;
+    made = refl;
     drawn = refl;
     limit = refl;
     cells = refl;
@@ -37,6 +38,7 @@ module _ {E S : Type 0} where
     own = q.own ∙ p.own;
     crew = q.crew ∙ p.crew;
     alone = q.alone ∙ p.alone;
+    made = q.made ∙ p.made;
     drawn = q.drawn ∙ p.drawn;
     limit = q.limit ∙ p.limit;
     cells = q.cells ∙ p.cells;

@@ -130,6 +130,7 @@ module _ {E S : Type 0} (object : Object E) (primitive : Primitive E S) (passes 
               weight = one;
               alone = refl;
               kept = λ a. eq-eqb (live_in n) 1 (l.0 ∙ (k.alone a).0);
+              made_none = refl;
               saw = t.1;
             },
             refl,

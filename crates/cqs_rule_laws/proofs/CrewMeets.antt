@@ -420,6 +420,7 @@ module _ {E S : Type 0} (object : Object E) (primitive : Primitive E S) (passes 
             handed_in_other = k.sees.other_handed_in;
             mine = λ j h. sym (k.sees.mine j h);
             theirs = λ j h. sym (k.sees.theirs j h);
+            made_none = refl;
             limit = refl;
             cells = refl;
             slots = refl;

@@ -112,6 +112,7 @@ module _ {E S : Type 0} (object : Object E) (primitive : Primitive E S) (passes 
             second_number = m;
             second = first_facts gives;
             crew = n;
+            made = v.made ++ m ∷ [];
             alone = false;
           } in
           let none : v.others ≡ [] = k.light (omega arith) in
@@ -295,6 +296,7 @@ module _ {E S : Type 0} (object : Object E) (primitive : Primitive E S) (passes 
                   handed = refl;
                   more = refl;
                 };
+                made_one = λ z. refl;
                 saw = λ z. record {
                   between = base.between;
                   seen = base.seen;
@@ -306,6 +308,7 @@ module _ {E S : Type 0} (object : Object E) (primitive : Primitive E S) (passes 
                     own = refl;
                     crew = refl;
                     alone = refl;
+                    made = refl;
                     drawn = refl;
                     limit = refl;
                     cells = refl;
@@ -356,7 +359,7 @@ module _ {E S : Type 0} (object : Object E) (primitive : Primitive E S) (passes 
             (
               record {
                 crew = refl;
-                missed = λ z. record { weight = one; alone = refl; saw = t.1 };
+                missed = λ z. record { weight = one; alone = refl; made_none = refl; saw = t.1 };
                 later = λ z e. ⊎_elim
                     (λ (h : crew_turn v.crew < 2 * r.made - r.live).
                     let g : crew_turn n ≡ 2 * r.made - r.live = (λ j. 2 * made j - live j) in
@@ -364,6 +367,7 @@ module _ {E S : Type 0} (object : Object E) (primitive : Primitive E S) (passes 
                     (λ (h : v.crew ≡ r.made * 4294967296 + r.live). absurd (other (r.crew.word ∙ (sym h ∙ e))))
                     k.crew;
                 made = λ z. absurd (other z);
+                made_one = λ z. absurd (other z);
                 saw = λ z. absurd (other z);
                 unnamed = λ z. absurd (other z);
                 known = λ z. absurd (other z);

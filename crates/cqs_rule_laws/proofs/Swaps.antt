@@ -102,6 +102,7 @@ saw-given {E} {S} object v g w {facts} {es} t same more less = record {
     own = t.same.own ∙ ap (λ u. u.own) same;
     crew = t.same.crew ∙ ap (λ u. u.crew) same;
     alone = t.same.alone ∙ ap (λ u. u.alone) same;
+    made = t.same.made ∙ ap (λ u. u.made) same;
     drawn = t.same.drawn ∙ ap (λ u. u.drawn) same;
     limit = t.same.limit ∙ ap (λ u. u.limit) same;
     cells = t.same.cells ∙ ap (λ u. u.cells) same;

@@ -1,12 +1,12 @@
 -- A pass that is made by an exchange which may have to be tried again, and what the cut leaves of the two.
-use Rattle.std.proofs.Common.{◌≡◌, ◌≢◌, ℕ, ◌<◌, ◌^◌, Bool, true, false, true≢false, List, [], ◌∷◌, ◌≤◌, sym, refl, ap, ◌∙◌, subst, arith, length, inl, ⊎_elim, nat_lt, lt-ltb, if◌then◌else◌}
+use Rattle.std.proofs.Common.{◌≡◌, ◌≢◌, ℕ, ◌<◌, ◌^◌, Bool, true, false, true≢false, List, [], ◌∷◌, ◌++◌, ◌≤◌, sym, refl, ap, ◌∙◌, subst, arith, length, inl, ⊎_elim, nat_lt, lt-ltb, if◌then◌else◌}
 use Rattle.std.proofs.lemmas.Bool.{cases_lt}
 use Rattle.cqs_core.specs.declared.doings.Doing.TheVariants as doing
 use Rattle.cqs_slots.specs.Told.{SeesMore}
 use Rattle.cqs_rule_laws.specs.declared.view.View.{View}
 use Rattle.cqs_rule_laws.specs.declared.view.Opening.{Opening}
 use Rattle.cqs_rule_laws.specs.declared.view.Facts.{Facts}
-use Rattle.cqs_rule_laws.specs.Crew.{IsBetween, IsSole, IsDoubled, Counted, Tried, CameWith}
+use Rattle.cqs_rule_laws.specs.Crew.{IsBetween, IsSole, IsDoubled, MadeNone, MadeOne, Counted, Tried, CameWith}
 use Rattle.cqs_rule_laws.specs.Hidden.{Hidden}
 use Rattle.cqs_rule_laws.specs.Inside.{IsInside}
 use Rattle.cqs_rule_laws.specs.Configured.{longest_line}
@@ -86,10 +86,11 @@ module _ {E S : Type 0} (object : Object E) where
   pub record Tries (v w : View E S) (found : ℕ) : Type 0 where
     pub saw : Saw object v v.facts [] (as_before v w)
     pub crew : w.crew ≡ found
+    pub made_none : MadeNone v w
     pub kept : v.alone ≡ true → w.alone ≡ true
 
   pub tries-first : (v w : View E S) (n : ℕ) → Counted object v n w → Tries v w n
-  tries-first v w n c = record { saw = c.saw; crew = c.crew; kept = c.kept }
+  tries-first v w n c = record { saw = c.saw; crew = c.crew; made_none = c.made_none; kept = c.kept }
 
   -- one look after another, the last of which leaves the pass at other facts
   pub looks-then : (v w u : View E S) (first : ℕ) (now : Facts → Facts) → Tries v w first
@@ -107,6 +108,7 @@ module _ {E S : Type 0} (object : Object E) where
           own = s.same.own;
           crew = refl;
           alone = refl;
+          made = refl;
           drawn = refl;
           limit = s.same.limit;
           cells = s.same.cells;
@@ -125,6 +127,7 @@ module _ {E S : Type 0} (object : Object E) where
   tries-again v w u gives first n other t e = record {
     saw = looks-then v w u first (λ f. f) t (e.missed other).saw;
     crew = e.crew;
+    made_none = (e.missed other).made_none ∙ t.made_none;
     kept = λ a. (e.missed other).alone ∙ t.kept a;
   }
 
@@ -132,6 +135,7 @@ module _ {E S : Type 0} (object : Object E) where
   pub record Leaves (gives : ℕ) (v w x : View E S) : Type 0 where
     pub saw : Saw object v (facts_lessened gives v.facts) [] (as_before v x)
     pub weight : x.weight ≡ 1
+    pub made_one : MadeOne (made_in x.crew) v x
     pub number : x.number ≡ w.number
     pub facts : x.facts ≡ facts_lessened gives w.facts
     pub cells : x.cells ≡ w.cells
@@ -150,6 +154,8 @@ module _ {E S : Type 0} (object : Object E) where
       let s = e.saw hit in subst (λ (z : View E S × X). Leaves gives v w z.0) (sym is) record {
         saw = looks-then v w u first (facts_lessened gives) t s;
         weight = refl;
+        made_one = e.made_one hit ∙ (ap (λ l. l ++ made_in n ∷ []) t.made_none
+            ∙ ap (λ m. v.made ++ made_in m ∷ []) (sym e.crew));
         number = s.same.number;
         facts = s.facts_are;
         cells = s.same.cells;
@@ -189,6 +195,7 @@ module _ {E S : Type 0} (object : Object E) where
           seen = d.seen;
           handed = d.handed;
           bare = refl;
+          childless = refl;
           unnamed = subst (λ (z : ℕ × List E). part object.names z.0 z.1 ≡ []) (λ j. (sym d.number j, sym d.seen j))
               (e.unnamed hit);
           passes = refl;

@@ -54,6 +54,15 @@ pub record IsDoubled {E S : Type 0} (gives n : ℕ) (w : View E S) : Type 0 wher
   pub handed : w.other_handed ≡ w.handed
   pub more : w.alone ≡ false
 
+module _ {E S : Type 0} where
+  -- the pass has made no other one since
+  abbrev pub MadeNone : View E S → View E S → Type 0
+  MadeNone v w = w.made ≡ v.made
+
+  -- it has made the one of this number since, and no more
+  abbrev pub MadeOne : ℕ → View E S → View E S → Type 0
+  MadeOne n v w = w.made ≡ v.made ++ n ∷ []
+
 module _ {E : Type 0} (object : Object E) where
   module _ {S : Type 0} where
     -- a load of the crew's word found n
@@ -62,12 +71,14 @@ module _ {E : Type 0} (object : Object E) where
       pub weight : w.weight ≡ 1
       pub alone : w.alone ≡ (live_in n == 1)
       pub kept : v.alone ≡ true → w.alone ≡ true
+      pub made_none : MadeNone v w
       pub saw : Saw object v v.facts [] (as_before v w)
 
     -- the pass has only seen more
     pub record Missed (v w : View E S) : Type 0 where
       pub weight : w.weight ≡ 1
       pub alone : w.alone ≡ v.alone
+      pub made_none : MadeNone v w
       pub saw : Saw object v v.facts [] (as_before v w)
 
     -- The exchange by which a pass is made that gets so much, where `first` stands at the crew's
@@ -77,6 +88,7 @@ module _ {E : Type 0} (object : Object E) where
       pub missed : n ≢ first → Missed v w
       pub later : n ≢ first → v.crew ≡ first → crew_turn first < crew_turn n
       pub made : n ≡ first → IsDoubled gives n w
+      pub made_one : n ≡ first → MadeOne (made_in n) v w
       pub saw : n ≡ first → Saw object v (facts_lessened gives v.facts) [] (as_before v w)
       pub unnamed : n ≡ first → part object.names (made_in n) w.seen ≡ []
       pub known : n ≡ first → object.knows w.opening (first_has gives)
@@ -87,6 +99,7 @@ module _ {E : Type 0} (object : Object E) where
         (own : List ℕ) (w : View E S) : Type 0 where
       pub number : w.number ≡ v.number
       pub weight : w.weight ≡ 1
+      pub made_none : MadeNone v w
       pub facts_are : w.facts ≡ facts
       pub own_is : w.own ≡ v.own ++ own
       pub prefix : IsPrefix v.seen w.seen
@@ -126,8 +139,8 @@ module _ {E : Type 0} (object : Object E) where
         × IsLive object me'.0 × (me'.0.laid ≡ me.0.laid)
 
 module _ {E S : Type 0} (object : Object E) where
-  -- the new pass: it has seen what this one has seen, holds so much, has a number of its own, and
-  -- no entry names it
+  -- the new pass: it has seen what this one has seen, holds so much, has made none, has a number
+  -- of its own, and no entry names it
   pub record CameWith (gives : ℕ) (v w : View E S) : Type 0 where
     pub number : w.number ≡ made_in v.crew
     pub own : w.own ≡ w.number ∷ []
@@ -135,6 +148,7 @@ module _ {E S : Type 0} (object : Object E) where
     pub seen : w.seen ≡ v.seen
     pub handed : w.handed ≡ v.handed
     pub bare : w.laid ≡ []
+    pub childless : w.made ≡ []
     pub unnamed : part object.names w.number w.seen ≡ []
     pub passes : w.passes ≡ v.passes
     pub opening : w.opening ≡ v.opening

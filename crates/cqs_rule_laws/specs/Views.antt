@@ -81,6 +81,7 @@ module _ {E S : Type 0} where
     second_number = 0;
     second = first_facts 0;
     crew = 0;
+    made = [];
     alone = true;
     drawn = record { all = cells - (limit + passes); own = 0 };
     limit = limit;
@@ -122,6 +123,7 @@ module _ {E S : Type 0} where
     handed = v.other_handed;
     laid = [];
     own = v.others;
+    made = [];
   }
 
   -- the view takes in that of another pass, which holds nothing, has no slot spare, no cell to
@@ -162,6 +164,7 @@ module _ {E S : Type 0} where
     second_number = v.second_number;
     second = v.second;
     crew = v.crew;
+    made = v.made;
     alone = v.alone;
     drawn = v.drawn;
   }
@@ -172,6 +175,7 @@ module _ {E S : Type 0} where
     pub weight : w.weight ≡ v.weight
     pub own : w.own ≡ v.own
     pub crew : w.crew ≡ v.crew
+    pub made : w.made ≡ v.made
     pub alone : w.alone ≡ v.alone
     pub drawn : w.drawn ≡ v.drawn
     pub limit : w.limit ≡ v.limit

@@ -5,6 +5,7 @@ ghost use Rattle.cqs_rule.specs.Histories.{AreOf, HaveLookedOn, IsHistoryOf};
 ghost use Rattle.cqs_rule.specs.Passes.{pass_view};
 ghost use Rattle.cqs_rule.specs.Seats.{HasLookedOn};
 ghost use Rattle.cqs_barrier.specs.Calls.{IsMine};
+ghost use Rattle.cqs_rule_laws.specs.Crew.{MadeNone};
 
 use crate::barrier::{Barrier, BarrierPass};
 use cqs_rule::Carries;
@@ -20,6 +21,7 @@ impl<T: Carries + Send> Barrier<T> {
         ensures others_belong { AreOf self.now.queue others.new }
         ensures looked { HasLookedOn pass.old pass.new }
         ensures kept { (pass_view pass.old).alone ≡ true → (pass_view pass.new).alone ≡ true }
+        ensures made_none { MadeNone (pass_view pass.old) (pass_view pass.new) }
         ensures others_looked { HaveLookedOn others.old others.new }
         ensures history { IsHistoryOf (pass_view pass.new) pass.old others.old }
     {

@@ -3,7 +3,7 @@
 ghost use Rattle.std.specs.Prelude.{◌≡◌, ◌⊎◌, ◌+◌, ◌-◌, ◌++◌, ◌≤◌, [], true, IsTrue, IsErr, IfOk, IfErr, OnErr, OnOk};
 ghost use mathlib.Core.Logic.{◌↔◌};
 ghost use Rattle.cqs_rule_laws.specs.Alone.{IsAlone};
-ghost use Rattle.cqs_rule_laws.specs.Crew.{IsBetween, CameWith};
+ghost use Rattle.cqs_rule_laws.specs.Crew.{IsBetween, CameWith, MadeNone, MadeOne};
 ghost use Rattle.cqs_rule.specs.Passes.{pass_view, passes_of};
 ghost use Rattle.cqs_rule.specs.Seats.{IsBusy, HasLookedOn, HasGiven, HasMet};
 ghost use Rattle.cqs_rule_laws.specs.Lists.{IsPrefix};
@@ -30,6 +30,9 @@ impl<T: Carries + Send> Barrier<T> {
         ensures gave { OnOk result (HasGiven gives pass.old pass.new) }
         ensures kept { OnErr result ((pass_view pass.old).alone ≡ true
             → (pass_view pass.new).alone ≡ true) }
+        ensures made_none { OnErr result (MadeNone (pass_view pass.old) (pass_view pass.new)) }
+        ensures made_one { IfOk result
+            (λ made. MadeOne (pass_view made).number (pass_view pass.old) (pass_view pass.new)) }
         ensures new_belongs { IfOk result (λ made. IsMine self.now made) }
         ensures came { IfOk result
             (λ made. CameWith barrier_object gives (pass_view pass.new) (pass_view made)) }
@@ -71,6 +74,7 @@ impl<T: Carries + Send> Barrier<T> {
         ensures alone { result ≡ (pass_view pass.new).alone }
         ensures kept { (pass_view pass.old).alone ≡ true → (pass_view pass.new).alone ≡ true }
         ensures looked { HasLookedOn pass.old pass.new }
+        ensures made_none { MadeNone (pass_view pass.old) (pass_view pass.new) }
         ensures others { IsTrue result → IsAlone primitive_of (pass_view pass.new) }
     {
         self.queue.sole(pass)
@@ -85,6 +89,7 @@ impl<T: Carries + Send> Barrier<T> {
         ensures other_belongs { IsMine self.now other.new }
         ensures looked { HasLookedOn pass.old pass.new }
         ensures kept { (pass_view pass.old).alone ≡ true → (pass_view pass.new).alone ≡ true }
+        ensures made_none { MadeNone (pass_view pass.old) (pass_view pass.new) }
         ensures other_stays { pass_view other.new ≡ pass_view other.old }
         ensures all { IsPrefix (pass_view other.old).seen (pass_view pass.new).seen }
         ensures one_history { IsPrefix (pass_view pass.old).seen (pass_view other.old).seen

@@ -10,6 +10,7 @@ use Rattle.cqs_rule_laws.specs.declared.client.ClientWords.{Ghosts}
 use Rattle.cqs_rule.specs.declared.queue.Pass.{Pass}
 use Rattle.cqs_rule.specs.Passes.{pass_view, passes_of}
 use Rattle.cqs_rule.specs.Seats.{HasLookedOn}
+use Rattle.cqs_rule_laws.specs.Crew.{MadeNone}
 use Rattle.cqs_rule_laws.specs.Views.{made_in}
 use Rattle.cqs_barrier.specs.Parked.{Barrier, BarrierClient}
 use Rattle.cqs_barrier_rounds.specs.Passes.{EachIs, AreCalledWithin}
@@ -74,8 +75,9 @@ module _ {g : Ghosts BarrierClient (Unit {0}) BarrierEntry} where
       → AreCalledWithin (HasSplit gives made) 0 n ps qs → length made ≡ n
       → AreCalledWithin (HasTaken made) 0 (length made) (set qs n q) rs → slice_get bs n ≡ Some b
       → slice_get qs n ≡ Some p → passes_of b.queue ≤ made_in (pass_view q).crew
-      → HasLookedOn p q → ((pass_view p).alone ≡ true → (pass_view q).alone ≡ true) → IsCrowded gives bs ps rs
-  crowded-at gives n bs made ps qs rs b p q enough split long taken which there full looked kept = record {
+      → HasLookedOn p q → MadeNone (pass_view p) (pass_view q)
+      → ((pass_view p).alone ≡ true → (pass_view q).alone ≡ true) → IsCrowded gives bs ps rs
+  crowded-at gives n bs made ps qs rs b p q enough split long taken which there full looked none kept = record {
     round = n;
     barrier = b;
     old = p;
@@ -85,6 +87,7 @@ module _ {g : Ghosts BarrierClient (Unit {0}) BarrierEntry} where
     now = taken.behind n (omega (arith, long)) ∙ get-set_here qs n p q there;
     full = full;
     looked = looked;
+    made_none = none;
     kept = kept;
     back = λ r a c low high got now.
         let inside = get-below ps r a got in

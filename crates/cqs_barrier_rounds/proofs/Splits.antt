@@ -7,6 +7,7 @@ use Rattle.cqs_rule_laws.specs.declared.client.ClientWords.{Ghosts}
 use Rattle.cqs_rule.specs.declared.queue.Pass.{Pass}
 use Rattle.cqs_rule_laws.specs.declared.view.Has.{Has}
 use Rattle.cqs_rule_laws.specs.Alone.{IsAlone}
+use Rattle.cqs_rule_laws.specs.Crew.{MadeNone}
 use Rattle.cqs_rule_laws.specs.Hidden.{has_less}
 use Rattle.cqs_rule.specs.Passes.{pass_view}
 use Rattle.cqs_rule.specs.Seats.{IsBusy, HasLookedOn}
@@ -73,11 +74,12 @@ module _ {g : Ghosts BarrierClient (Unit {0}) BarrierEntry} where
       }
 
   pub asked-by : (p q : Pass BarrierClient (Unit {0}) BarrierEntry g) (result : Bool) → HasLookedOn p q
-      → result ≡ (pass_view q).alone → (IsTrue result ↔ live_in (pass_view q).crew ≡ 1)
+      → MadeNone (pass_view p) (pass_view q) → result ≡ (pass_view q).alone → (IsTrue result ↔ live_in (pass_view q).crew ≡ 1)
       → (IsTrue result → IsAlone primitive_of (pass_view q))
       → ((pass_view p).alone ≡ true → (pass_view q).alone ≡ true) → HasAsked p q
-  asked-by p q result looked same sole others kept = record {
+  asked-by p q result looked none same sole others kept = record {
     looked = looked;
+    made_none = none;
     sole = (λ alone. sole.0 (same ∙ alone), λ one. sym same ∙ sole.1 one);
     others = λ alone. others (same ∙ alone);
     kept = kept;

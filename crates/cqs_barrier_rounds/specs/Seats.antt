@@ -5,7 +5,7 @@ use Rattle.cqs_barrier_object.specs.declared.entries.BarrierEntry.{BarrierEntry}
 use Rattle.cqs_rule_laws.specs.declared.client.ClientWords.{Ghosts}
 use Rattle.cqs_rule.specs.declared.queue.Pass.{Pass}
 use Rattle.cqs_rule_laws.specs.Alone.{IsAlone}
-use Rattle.cqs_rule_laws.specs.Crew.{IsBetween, CameWith}
+use Rattle.cqs_rule_laws.specs.Crew.{IsBetween, CameWith, MadeNone, MadeOne}
 use Rattle.cqs_rule.specs.Passes.{pass_view, passes_of}
 use Rattle.cqs_rule.specs.Seats.{IsBusy, HasGiven, HasLookedOn, HasMet}
 use Rattle.cqs_rule_laws.specs.Views.{live_in, made_in}
@@ -59,11 +59,12 @@ module _ {g : Ghosts BarrierClient (Unit {0}) BarrierEntry} where
     pub there : slice_get givens r ≡ Some given
     pub taken : HasTakenIn given p q
 
-  -- a pass gave so many parties to a new one
+  -- a pass gave so many parties to a new one, and made no other
   pub record HasMade (gives : ℕ) (new p q : Pass BarrierClient (Unit {0}) BarrierEntry g)
       : Type 0 where
     pub gave : HasGiven gives p q
     pub came : CameWith barrier_object gives (pass_view q) (pass_view new)
+    pub made_one : MadeOne (pass_view new).number (pass_view p) (pass_view q)
 
   -- the pass of a round gave so many parties to the new pass of that round
   pub record HasSplit (gives : ℕ) (made : List (Pass BarrierClient (Unit {0}) BarrierEntry g))
@@ -99,6 +100,7 @@ module _ {g : Ghosts BarrierClient (Unit {0}) BarrierEntry} where
     pub now : slice_get qs round ≡ Some new
     pub full : passes_of barrier.queue ≤ made_in (pass_view new).crew
     pub looked : HasLookedOn old new
+    pub made_none : MadeNone (pass_view old) (pass_view new)
     pub kept : (pass_view old).alone ≡ true → (pass_view new).alone ≡ true
     pub back : EachWithin (λ r p q. IsBack gives p q) 0 round ps qs
     pub later : (r : ℕ) → round < r → slice_get qs r ≡ slice_get ps r
@@ -114,6 +116,7 @@ module _ {g : Ghosts BarrierClient (Unit {0}) BarrierEntry} where
   -- the whole history of the round, and all others rest.
   pub record HasAsked (p q : Pass BarrierClient (Unit {0}) BarrierEntry g) : Type 0 where
     pub looked : HasLookedOn p q
+    pub made_none : MadeNone (pass_view p) (pass_view q)
     pub sole : (pass_view q).alone ≡ true ↔ live_in (pass_view q).crew ≡ 1
     pub others : (pass_view q).alone ≡ true → IsAlone primitive_of (pass_view q)
     pub kept : (pass_view p).alone ≡ true → (pass_view q).alone ≡ true

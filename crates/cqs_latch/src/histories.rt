@@ -4,6 +4,7 @@ ghost use Rattle.std.specs.Prelude.{◌≡◌, true};
 ghost use Rattle.cqs_rule.specs.Histories.{AreOf, HaveLookedOn, IsHistoryOf};
 ghost use Rattle.cqs_rule.specs.Passes.{pass_view};
 ghost use Rattle.cqs_rule_laws.specs.CallRule.{IsReady};
+ghost use Rattle.cqs_rule_laws.specs.Crew.{MadeNone};
 ghost use Rattle.cqs_latch.specs.Calls.{IsMine, KeepsWaits};
 ghost use Rattle.cqs_latch.specs.Seats.{LookedOn};
 
@@ -23,6 +24,7 @@ impl<T: Carries + Send> Latch<T> {
         ensures keeps { KeepsWaits (pass_view pass.old) (pass_view pass.new) }
         ensures ready { IsReady (pass_view pass.old).facts → IsReady (pass_view pass.new).facts }
         ensures kept { (pass_view pass.old).alone ≡ true → (pass_view pass.new).alone ≡ true }
+        ensures made_none { MadeNone (pass_view pass.old) (pass_view pass.new) }
         ensures others_looked { HaveLookedOn others.old others.new }
         ensures history { IsHistoryOf (pass_view pass.new) pass.old others.old }
     {

@@ -40,6 +40,7 @@ module _ {g : Ghosts (PoolClient (Unit {0})) (Unit {0}) PoolEntry} where
     facts = came.facts;
     own = came.own;
     unnamed = came.unnamed;
+    childless = came.childless;
   }
 
   pub spare-none : (pool : Pool (Unit {0})) (ps : List (PoolPass g)) → ps ≡ [] → AreSpare pool 0 ps

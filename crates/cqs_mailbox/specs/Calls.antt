@@ -128,7 +128,7 @@ pub record IsNewPost (s : ℕ) (p : Post) : Type 0 where
   pub facts : (line_view p).facts ≡ first_facts 0
 
 -- The desk made a post, which has the next number and has seen of the pool what the desk has. No
--- entry that it has seen names its pass.
+-- entry that it has seen names its pass, and its pass has made none.
 pub record HasHired (d : Desk) (p : Post) (e : Desk) : Type 0 where
   pub new : IsNewPost (posts_of d) p
   pub letters : view e.letters ≡ hiring (view d.letters)
@@ -137,6 +137,7 @@ pub record HasHired (d : Desk) (p : Post) (e : Desk) : Type 0 where
   pub sees : IsPrefix (pass_view d.pool).seen (line_view p).seen
   pub own : (line_view p).own ≡ (line_view p).number ∷ []
   pub unnamed : part pool_object.names (line_view p).number (line_view p).seen ≡ []
+  pub childless : (line_view p).made ≡ []
 
 -- The post has met the desk: what the desk received of it is a prefix of what it had sent, and it
 -- took no more acknowledgements than the desk gave it. The envelopes that are out stay in the

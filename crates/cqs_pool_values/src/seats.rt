@@ -2,7 +2,7 @@
 
 ghost use Rattle.std.specs.Prelude.{◌≡◌, ◌⊎◌, ◌++◌, ◌≤◌, [], true, IsTrue, IsErr, IfOk, IfErr, OnErr, OnOk};
 ghost use mathlib.Core.Logic.{◌↔◌};
-ghost use Rattle.cqs_rule_laws.specs.Crew.{IsBetween, IsSole, Came};
+ghost use Rattle.cqs_rule_laws.specs.Crew.{IsBetween, IsSole, Came, MadeNone, MadeOne};
 ghost use Rattle.cqs_rule.specs.Passes.{pass_view, passes_of};
 ghost use Rattle.cqs_rule.specs.Seats.{IsBusy, HasMet};
 ghost use Rattle.cqs_pool.specs.Pool.{pool_object};
@@ -28,6 +28,9 @@ impl<T: Send + Drop> ValuePool<T> {
         ensures ready { IsReady (pass_view pass.new).facts }
         ensures kept { OnErr result ((pass_view pass.old).alone ≡ true
             → (pass_view pass.new).alone ≡ true) }
+        ensures made_none { OnErr result (MadeNone (pass_view pass.old) (pass_view pass.new)) }
+        ensures made_one { IfOk result
+            (λ made. MadeOne (pass_view made).number (pass_view pass.old) (pass_view pass.new)) }
         ensures new_belongs { IfOk result (λ made. Belongs self.now made) }
         ensures came { IfOk result
             (λ made. Came pool_object (pass_view pass.new) (pass_view made)) }
@@ -72,6 +75,7 @@ impl<T: Send + Drop> ValuePool<T> {
         ensures kept { (pass_view pass.old).alone ≡ true → (pass_view pass.new).alone ≡ true }
         ensures looked { LookedOn (pass_view pass.old) (pass_view pass.new) }
         ensures ready { IsReady (pass_view pass.old).facts → IsReady (pass_view pass.new).facts }
+        ensures made_none { MadeNone (pass_view pass.old) (pass_view pass.new) }
         ensures others { IsTrue result → SeesAll (pass_view pass.new) }
     {
         self.pool.sole(pass)
@@ -87,6 +91,7 @@ impl<T: Send + Drop> ValuePool<T> {
         ensures looked { LookedOn (pass_view pass.old) (pass_view pass.new) }
         ensures kept { (pass_view pass.old).alone ≡ true → (pass_view pass.new).alone ≡ true }
         ensures ready { IsReady (pass_view pass.old).facts → IsReady (pass_view pass.new).facts }
+        ensures made_none { MadeNone (pass_view pass.old) (pass_view pass.new) }
         ensures other_stays { pass_view other.new ≡ pass_view other.old }
         ensures all { IsPrefix (pass_view other.old).seen (pass_view pass.new).seen }
         ensures one_history { IsPrefix (pass_view pass.old).seen (pass_view other.old).seen

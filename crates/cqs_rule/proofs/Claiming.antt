@@ -28,6 +28,7 @@ module _ {E S : Type 0} where
     own = refl;
     crew = refl;
     alone = refl;
+    made = refl;
     drawn = refl;
     limit = refl;
     cells = refl;

@@ -449,6 +449,7 @@ module _ {E S : Type 0} (u w : View E S) (k : Counted u w) where
     own = s.own;
     crew = s.crew;
     alone = s.alone;
+    made = s.made;
     drawn = s.drawn;
     limit = s.limit;
     cells = s.cells;

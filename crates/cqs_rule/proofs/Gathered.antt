@@ -34,6 +34,7 @@ module _ {C S E : Type 0} {g : Ghosts C S E} where
         met = record {
           number = m.number;
           weight = m.weight;
+          made_none = m.made_none;
           facts_are = m.facts_are;
           own_is = m.own_is;
           prefix = m.prefix;

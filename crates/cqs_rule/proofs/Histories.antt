@@ -10,6 +10,7 @@ use Rattle.cqs_core.proofs.Places.{get-set_here, get-set_else, get-below}
 use Rattle.cqs_rule_laws.specs.declared.client.ClientWords.{Ghosts}
 use Rattle.cqs_rule_laws.specs.declared.view.View.{View}
 use Rattle.cqs_rule_laws.specs.CallRule.{Course}
+use Rattle.cqs_rule_laws.specs.Crew.{MadeNone}
 use Rattle.cqs_rule_laws.specs.Lists.{Has, IsPrefix, part}
 use Rattle.cqs_rule_laws.specs.Object.{Object}
 use Rattle.cqs_rule_laws.specs.Saw.{Saw}
@@ -41,6 +42,7 @@ module _ {E S : Type 0} (object : Object E) where
       own = refl;
       crew = refl;
       alone = refl;
+      made = refl;
       drawn = refl;
       limit = refl;
       cells = refl;
@@ -71,6 +73,7 @@ module _ {E S : Type 0} (object : Object E) where
       own = q.same.own;
       crew = refl;
       alone = refl;
+      made = refl;
       drawn = refl;
       limit = q.same.limit;
       slots = q.same.slots;
@@ -147,6 +150,7 @@ module _ {C S E : Type 0} {g : Ghosts C S E} where
     pub heard : (i : ℕ) (p : Pass C S E g) → i < n → slice_get ps i ≡ Some p → StandsIn g.object v.seen (pass_view p)
     pub looked : (i : ℕ) (p q : Pass C S E g) → i < n → slice_get ps i ≡ Some p → slice_get qs i ≡ Some q
         → HasLookedOn p q × ((pass_view p).alone ≡ true → (pass_view q).alone ≡ true)
+        × MadeNone (pass_view p) (pass_view q)
     pub rest : (i : ℕ) (p q : Pass C S E g) → n ≤ i → slice_get ps i ≡ Some p → slice_get qs i ≡ Some q
         → pass_view q ≡ pass_view p
 
@@ -187,9 +191,10 @@ module _ {C S E : Type 0} {g : Ghosts C S E} where
 
   pub heard-more : (n : ℕ) (v w : View E S) (ps qs : List (Pass C S E g)) (o o' : Pass C S E g) → HaveHeard n v ps qs
       → slice_get qs n ≡ Some o → HasLookedOn o o' → ((pass_view o).alone ≡ true → (pass_view o').alone ≡ true)
-      → IsPrefix v.seen (pass_view o').seen → w ≡ v → HaveHeard (n + 1) w ps (set qs n o')
-  heard-more n v w ps qs o o' was there looked kept all is = subst (λ x. HaveHeard (n + 1) x ps (set qs n o')) (sym is)
-      (record {
+      → MadeNone (pass_view o) (pass_view o') → IsPrefix v.seen (pass_view o').seen → w ≡ v
+      → HaveHeard (n + 1) w ps (set qs n o')
+  heard-more n v w ps qs o o' was there looked kept unmade all is =
+      subst (λ x. HaveHeard (n + 1) x ps (set qs n o')) (sym is) (record {
         many = length-set qs n o' ∙ was.many;
         told = was.told;
         heard = λ i p low got. dite (ℕ_discrete i n)
@@ -201,10 +206,12 @@ module _ {C S E : Type 0} {g : Ghosts C S E} where
             (λ (e : i ≡ n).
             let here : q ≡ o' =
             same_Some q o' (sym now ∙ (ap (slice_get (set qs n o')) e ∙ get-set_here qs n o o' there)) in
-            subst (λ (x : Pass C S E g). HasLookedOn p x × ((pass_view p).alone ≡ true → (pass_view x).alone ≡ true))
+            subst (λ (x : Pass C S E g). HasLookedOn p x × ((pass_view p).alone ≡ true → (pass_view x).alone ≡ true)
+            × MadeNone (pass_view p) (pass_view x))
             (sym here)
             (subst (λ (x : View E S). Saw g.object x x.facts [] (as_before x (pass_view o'))
-            × (x.alone ≡ true → (pass_view o').alone ≡ true)) (begun i p e got) (looked, kept)))
+            × (x.alone ≡ true → (pass_view o').alone ≡ true) × MadeNone x (pass_view o')) (begun i p e got)
+            (looked, kept, unmade)))
             (λ (other : i ≢ n).
             was.looked i p q (omega arith) got (sym (get-set_else qs n i o' (λ e. other (sym e))) ∙ now));
         rest = λ i p q high got now.
@@ -222,6 +229,8 @@ module _ {C S E : Type 0} {g : Ghosts C S E} where
         (was.looked i p q (let low = get-below ps i p got in omega arith) got now).0;
     kept = λ i p q got now.
         (was.looked i p q (let low = get-below ps i p got in omega arith) got now).1;
+    made_none = λ i p q got now.
+        (was.looked i p q (let low = get-below ps i p got in omega arith) got now).2;
   }
 
   pub history-all : (n : ℕ) (p h : Pass C S E g) (ps qs : List (Pass C S E g)) → HasLookedOn p h

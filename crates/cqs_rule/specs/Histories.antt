@@ -2,6 +2,7 @@
 use Rattle.std.specs.Prelude.{◌≡◌, ℕ, true, List, ◌++◌, length, Some, slice_get}
 use Rattle.cqs_rule_laws.specs.declared.client.ClientWords.{Ghosts}
 use Rattle.cqs_rule_laws.specs.declared.view.View.{View}
+use Rattle.cqs_rule_laws.specs.Crew.{MadeNone}
 use Rattle.cqs_rule_laws.specs.Lists.{Has, IsPrefix, part}
 use Rattle.cqs_rule_laws.specs.Object.{Object}
 use Rattle.cqs_rule.specs.declared.queue.Pass.{Pass}
@@ -37,10 +38,12 @@ module _ {C S E : Type 0} {g : Ghosts C S E} where
     pub others : (i : ℕ) (o : Pass C S E g) → slice_get ps i ≡ Some o
         → StandsIn g.object h.seen (pass_view o)
 
-  -- each of the passes has seen more, appended nothing, and is at what it was
+  -- each of the passes has seen more, appended nothing, made no pass, and is at what it was
   pub record HaveLookedOn (ps qs : List (Pass C S E g)) : Type 0 where
     pub many : length qs ≡ length ps
     pub each : (i : ℕ) (p q : Pass C S E g) → slice_get ps i ≡ Some p → slice_get qs i ≡ Some q
         → HasLookedOn p q
     pub kept : (i : ℕ) (p q : Pass C S E g) → slice_get ps i ≡ Some p → slice_get qs i ≡ Some q
         → (pass_view p).alone ≡ true → (pass_view q).alone ≡ true
+    pub made_none : (i : ℕ) (p q : Pass C S E g) → slice_get ps i ≡ Some p
+        → slice_get qs i ≡ Some q → MadeNone (pass_view p) (pass_view q)

@@ -1,5 +1,5 @@
 -- What the pass of a worker is at when it is hired, and what passes of a crew have met.
-use Rattle.std.specs.Prelude.{◌≡◌, ℕ, ◌<◌, ◌≤◌, List, [], ◌∷◌, ◌++◌, All, length, Some, slice_get}
+use Rattle.std.specs.Prelude.{◌≡◌, ℕ, ◌+◌, ◌<◌, ◌≤◌, List, [], ◌∷◌, ◌++◌, All, length, Some, slice_get}
 use Rattle.std.specs.List.{fold}
 use Rattle.cqs_core.specs.declared.entries.Entry.{Entry}
 use Rattle.cqs_core.specs.SemaphoreNames.{entry_names}
@@ -62,8 +62,13 @@ module _ {T : Type 0} where
     pub made : All (CountsRounds rounds) each
     pub sum : counts ≡ fold both_counts no_counts each
 
+  -- the pass has made so many others
+  abbrev pub HasMade : View Entry T → ℕ → View Entry T → Type 0
+  HasMade v many w = length w.made ≡ length v.made + many
+
   -- The pass has looked on, and then as many passes were made as the semaphore allows. It has met
-  -- some others since, fewer than so many: those that it had made before.
+  -- some others since, fewer than so many: those that it had made before, which are all that it
+  -- made.
   pub record IsCrowded (s : Semaphore T) (threads : ℕ) (v w : View Entry T) : Type 0 where
     pub between : View Entry T
     pub looked : HasMetAll v 0 between
@@ -71,3 +76,4 @@ module _ {T : Type 0} where
     pub many : ℕ
     pub few : many < threads
     pub back : HasMetAll between many w
+    pub made : HasMade v many w

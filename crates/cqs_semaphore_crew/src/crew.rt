@@ -1,12 +1,13 @@
 //! A crew of workers, each with a thread and a pass of its own.
 
-ghost use Rattle.std.specs.Prelude.{◌≡◌, ◌*◌, ◌^◌, ◌<◌, ◌≤◌, All, IfOk, IsErr, IsErrOf, OnOk, vec_len};
+ghost use Rattle.std.specs.Prelude.{◌≡◌, ◌*◌, ◌^◌, ◌<◌, ◌≤◌, All, IfOk, IsErr, IsErrOf, OnErr, OnOk, vec_len};
 ghost use Rattle.cqs_rule.specs.Passes.{pass_view, passes_of};
+ghost use Rattle.cqs_rule_laws.specs.Crew.{MadeNone, MadeOne};
 ghost use Rattle.cqs_rule_laws.specs.Views.{made_in};
 ghost use Rattle.cqs_semaphore_crew.specs.declared.crew.CrewError.TheVariants.{Memory};
 ghost use Rattle.cqs_semaphore_crew.specs.Sums.{CountsRounds};
 ghost use Rattle.cqs_semaphore.specs.Callers.{held_by, IsAtRest};
-ghost use Rattle.cqs_semaphore_crew.specs.Workers.{HasCounted, HasMetAll, HasTakenIn, HasToldAll, IsCrowded, IsHired, IsNew};
+ghost use Rattle.cqs_semaphore_crew.specs.Workers.{HasCounted, HasMade, HasMetAll, HasTakenIn, HasToldAll, IsCrowded, IsHired, IsNew};
 
 use crate::counts::{Counts, none_yet};
 use crate::worker::work;
@@ -48,6 +49,7 @@ pub fn together<R: Threads + Wait + Sync>(
     requires rest { IsAtRest semaphore.now (held_by pass.old) pass.old }
     ensures rest { IsAtRest semaphore.now (held_by pass.old) pass.new }
     ensures met { OnOk result (HasMetAll (pass_view pass.old) threads (pass_view pass.new)) }
+    ensures made { OnOk result (HasMade (pass_view pass.old) threads (pass_view pass.new)) }
     ensures counted { IfOk result (HasCounted rounds (pass_view pass.old) (pass_view pass.new)) }
     ensures rounds { IfOk result (CountsRounds (threads * rounds)) }
     ensures memory { IsErrOf result CrewError.Memory
@@ -70,6 +72,7 @@ fn hire(
     requires rest { IsAtRest semaphore.now (held_by pass.old) pass.old }
     ensures rest { IsAtRest semaphore.now (held_by pass.old) pass.new }
     ensures met { OnOk result (HasMetAll (pass_view pass.old) 0 (pass_view pass.new)) }
+    ensures made { OnOk result (HasMade (pass_view pass.old) count (pass_view pass.new)) }
     ensures memory { IsErrOf result CrewError.Memory
         → HasMetAll (pass_view pass.old) 0 (pass_view pass.new) }
     ensures crowd { IsErrOf result CrewError.Crowd
@@ -97,6 +100,9 @@ fn hire_one(semaphore: &Semaphore, pass: &mut SemPass) -> Result<SemPass, Crowd>
     requires rest { IsAtRest semaphore.now (held_by pass.old) pass.old }
     ensures rest { IsAtRest semaphore.now (held_by pass.old) pass.new }
     ensures met { HasMetAll (pass_view pass.old) 0 (pass_view pass.new) }
+    ensures made_none { OnErr result (MadeNone (pass_view pass.old) (pass_view pass.new)) }
+    ensures made_one { IfOk result
+        (λ made. MadeOne (pass_view made).number (pass_view pass.old) (pass_view pass.new)) }
     ensures crowd { IsErr result
         → passes_of semaphore.now.queue ≤ made_in (pass_view pass.new).crew }
     ensures hired { IfOk result (λ made. IsHired semaphore.now made) }
@@ -112,6 +118,7 @@ fn take_back(semaphore: &Semaphore, pass: &mut SemPass, passes: Vec<SemPass>)
     requires hired { All (IsHired semaphore.now) passes.items }
     ensures rest { IsAtRest semaphore.now (held_by pass.old) pass.new }
     ensures met { HasMetAll (pass_view pass.old) (vec_len passes) (pass_view pass.new) }
+    ensures made_none { MadeNone (pass_view pass.old) (pass_view pass.new) }
 {
     for given in passes {
         take_in(semaphore, pass, given);
@@ -149,6 +156,7 @@ fn dismiss(
     requires few { vec_len worked < 2 ^ 32 }
     ensures rest { IsAtRest semaphore.now (held_by pass.old) pass.new }
     ensures met { HasMetAll (pass_view pass.old) (vec_len worked) (pass_view pass.new) }
+    ensures made_none { MadeNone (pass_view pass.old) (pass_view pass.new) }
     ensures counted { HasCounted _rounds (pass_view pass.old) (pass_view pass.new) result }
     ensures rounds { CountsRounds (vec_len worked * _rounds) result }
 {
@@ -166,6 +174,7 @@ fn take_in(semaphore: &Semaphore, pass: &mut SemPass, given: SemPass)
     requires given { IsHired semaphore.now given }
     ensures rest { IsAtRest semaphore.now (held_by pass.old) pass.new }
     ensures met { HasMetAll (pass_view pass.old) 1 (pass_view pass.new) }
+    ensures made_none { MadeNone (pass_view pass.old) (pass_view pass.new) }
     ensures taken { HasTakenIn (pass_view pass.old) (pass_view given) (pass_view pass.new) }
 {
     match semaphore.meet(pass, given) {

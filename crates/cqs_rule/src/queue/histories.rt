@@ -1,6 +1,7 @@
 //! The one history in which the calls of all passes stand.
 
 ghost use Rattle.std.specs.Prelude.{◌≡◌, true};
+ghost use Rattle.cqs_rule_laws.specs.Crew.{MadeNone};
 ghost use Rattle.cqs_rule.specs.Histories.{AreOf, HaveLookedOn, IsHistoryOf};
 ghost use Rattle.cqs_rule.specs.Passes.{pass_view, IsOf};
 ghost use Rattle.cqs_rule.specs.Seats.{HasLookedOn};
@@ -20,6 +21,7 @@ impl<C: ClientWords> Queue<C> {
         ensures others_belong { AreOf self.now others.new }
         ensures looked { HasLookedOn pass.old pass.new }
         ensures kept { (pass_view pass.old).alone ≡ true → (pass_view pass.new).alone ≡ true }
+        ensures made_none { MadeNone (pass_view pass.old) (pass_view pass.new) }
         ensures others_looked { HaveLookedOn others.old others.new }
         ensures history { IsHistoryOf (pass_view pass.new) pass.old others.old }
     {

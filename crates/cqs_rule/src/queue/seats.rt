@@ -4,7 +4,7 @@ ghost use Rattle.std.specs.Prelude.{◌≡◌, ◌⊎◌, true, ◌+◌, ◌++�
 ghost use mathlib.Core.Logic.{◌↔◌};
 ghost use Rattle.cqs_core.specs.declared.doings.Doing.TheVariants.{Idle};
 ghost use Rattle.cqs_rule_laws.specs.Alone.{TellsAlone};
-ghost use Rattle.cqs_rule_laws.specs.Crew.{IsBetween, IsSole, MayGive, OpensNone, Tried, CameWith, Met};
+ghost use Rattle.cqs_rule_laws.specs.Crew.{IsBetween, IsSole, MayGive, OpensNone, MadeNone, MadeOne, Tried, CameWith, Met};
 ghost use Rattle.cqs_rule_laws.specs.Layout.{words_for};
 ghost use Rattle.cqs_rule_laws.specs.Lists.{IsPrefix};
 ghost use Rattle.cqs_rule.specs.Passes.{pass_view, client_of, passes_of, IsOf};
@@ -31,6 +31,7 @@ impl<C: ClientWords> Queue<C> {
         ensures alone { result ≡ (pass_view pass.new).alone }
         ensures kept { (pass_view pass.old).alone ≡ true → (pass_view pass.new).alone ≡ true }
         ensures looked { HasLookedOn pass.old pass.new }
+        ensures made_none { MadeNone (pass_view pass.old) (pass_view pass.new) }
         ensures others { IsTrue result → IsSole C.primitive (pass_view pass.new) }
     {
         let found = load_at::<C, Count<C>>(&self.table.shared, &mut pass.seat, CREW_WORD);
@@ -47,6 +48,7 @@ impl<C: ClientWords> Queue<C> {
         ensures other_belongs { IsOf self.now other.new }
         ensures looked { HasLookedOn pass.old pass.new }
         ensures kept { (pass_view pass.old).alone ≡ true → (pass_view pass.new).alone ≡ true }
+        ensures made_none { MadeNone (pass_view pass.old) (pass_view pass.new) }
         ensures other_stays { pass_view other.new ≡ pass_view other.old }
         ensures all { IsPrefix (pass_view other.old).seen (pass_view pass.new).seen }
         ensures one_history { IsPrefix (pass_view pass.old).seen (pass_view other.old).seen
@@ -89,7 +91,7 @@ impl<C: ClientWords> Queue<C> {
     }
 
     /// A new pass, which has seen what this one has seen, has done nothing, and gets so much of
-    /// what this one holds.
+    /// what this one holds. No further pass is made, and none where the answer is `Crowd`.
     pub fn split(&self, pass: &mut Pass<C>, gives: u32) -> Result<Pass<C>, Crowd>
         requires belongs { IsOf self.now pass.old }
         requires enough { gives ≤ (pass_view pass.old).facts.has.held }
@@ -100,6 +102,9 @@ impl<C: ClientWords> Queue<C> {
         ensures crowd { IsErr result ↔ (passes_of self.now ≤ made_in (pass_view pass.new).crew) }
         ensures refused { OnErr result (HasLookedOn pass.old pass.new) }
         ensures looked { gives ≡ 0 → HasLookedOn pass.old pass.new }
+        ensures made_none { OnErr result (MadeNone (pass_view pass.old) (pass_view pass.new)) }
+        ensures made_one { IfOk result
+            (λ made. MadeOne (pass_view made).number (pass_view pass.old) (pass_view pass.new)) }
         ensures gave { OnOk result (HasGiven gives pass.old pass.new) }
         ensures kept { OnErr result ((pass_view pass.old).alone ≡ true
             → (pass_view pass.new).alone ≡ true) }

@@ -14,6 +14,7 @@ pub loop-given-init : goal.loop-given-init
 loop-given-init c =
     let all : into_iter_items c.into_iter-given-iterator.result ≡ c.args.worked.items = search rules in record {
       rest = c.requires.rest;
+      made_none = refl;
       met = met-none _ _ (course-none _ c.requires.rest.belongs.live.legal) refl;
       left = subst (All (λ w. IsHired c.args.semaphore.now w.0)) (sym all) c.requires.worked;
       told = subst (All (λ w. HasToldAll w.0 w.1)) (sym all) c.requires.told;
@@ -46,6 +47,7 @@ loop-given-preserved c =
         held_is = rest.held_is ∙ so_far.rest.held_is;
         waits_are = rest.waits_are;
       };
+      made_none = c.take_in.ensures.made_none ∙ so_far.made_none;
       met = rw length_push (met-then (length c.loop-given.yielded) 1 _ _ _ so_far.met c.take_in.ensures.met);
       left = All-tail (λ w. IsHired c.args.semaphore.now w.0) (c.in-Some.given, c.in-Some.counted) _ left;
       told = All-tail (λ w. HasToldAll w.0 w.1) (c.in-Some.given, c.in-Some.counted) _ told;

@@ -1,6 +1,7 @@
 use Rattle.std.proofs.Common.{◌≡◌, ◌+◌, ◌*◌, All, length, vec_len}
 use Rattle.std.specs.Vec.Iter.{into_iter_items}
 use Rattle.cqs_rule.specs.Passes.{pass_view}
+use Rattle.cqs_rule_laws.specs.Crew.{MadeNone}
 use Rattle.cqs_semaphore_crew.specs.Sums.{CountsRounds}
 use Rattle.cqs_semaphore.specs.Callers.{held_by, IsAtRest}
 use Rattle.cqs_semaphore_crew.specs.Workers.{HasCounted, HasMetAll, HasToldAll, IsHired}
@@ -10,6 +11,7 @@ use Rattle.cqs_semaphore_crew.proofs.crew.dismiss.Given as goal
 abbrev pub invariant-loop-given : goal.invariant-loop-given
 invariant-loop-given l = record {
   rest : IsAtRest l.semaphore (held_by l.fn.pass) l.pass;
+  made_none : MadeNone (pass_view l.fn.pass) (pass_view l.pass);
   met : HasMetAll (pass_view l.fn.pass) (length l.yielded) (pass_view l.pass);
   left : All (λ w. IsHired l.semaphore w.0) (into_iter_items l.given-iterator);
   told : All (λ w. HasToldAll w.0 w.1) (into_iter_items l.given-iterator);

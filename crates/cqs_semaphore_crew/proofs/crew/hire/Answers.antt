@@ -1,4 +1,5 @@
-use Rattle.std.proofs.Common.{All, arith, refl, subst, sym, vec_len, ◌∙◌}
+use Rattle.std.proofs.Common.{All, ap, arith, length, refl, subst, sym, vec_len, ◌∙◌}
+use Rattle.std.proofs.lemmas.List.{length_push}
 use Rattle.std.proofs.lemmas.List.Elements.{All-nil, All-push}
 use Rattle.cqs_rule.specs.Passes.{pass_view}
 use Rattle.cqs_semaphore_crew.specs.Workers.{IsHired, IsNew}
@@ -8,6 +9,7 @@ use Rattle.cqs_semaphore_crew.proofs.crew.hire.Goals as goal
 pub loop-made-init : goal.loop-made-init
 loop-made-init c = record {
   rest = c.requires.rest;
+  made = omega arith;
   met = met-none _ _ (course-none _ c.requires.rest.belongs.live.legal) refl;
   hired = subst (All (IsHired c.args.semaphore.now)) (sym c.in_ok-passes.ensures.items)
       (All-nil (IsHired c.args.semaphore.now));
@@ -30,6 +32,10 @@ loop-made-preserved c =
         held_is = rest.held_is ∙ so_far.rest.held_is;
         waits_are = rest.waits_are;
       };
+      made =
+          let one = ap (λ l. length l) c.in-Ok.ensures.made_one ∙ length_push _ _ in
+          let before = so_far.made in
+          omega arith;
       met = met-then 0 0 _ _ _ so_far.met c.hire_one.ensures.met;
       hired = subst (All free) (sym c.push_reserved.ensures.items)
           (All-push free c.loop-made.passes.items c.in-Ok.new so_far.hired c.in-Ok.ensures.hired);
@@ -49,6 +55,12 @@ returns-in-Err-clause-crowd c = λ refused. record {
   many = vec_len c.loop-made.passes;
   few = let few = c.loop-made.invariant.many in omega arith;
   back = c.take_back.ensures.met;
+  made =
+      let back = ap (λ l. length l) c.take_back.ensures.made_none in
+      let none = ap (λ l. length l) c.in-Err.ensures.made_none in
+      let before = c.loop-made.invariant.made in
+      let many = c.loop-made.invariant.many in
+      omega arith;
 }
 
 pub returns-in-Err-clause-rest : goal.returns-in-Err-clause-rest

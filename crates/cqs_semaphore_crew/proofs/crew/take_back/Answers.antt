@@ -10,6 +10,7 @@ pub loop-given-init : goal.loop-given-init
 loop-given-init c =
     let all : into_iter_items c.into_iter-given-iterator.result ≡ c.args.passes.items = search rules in record {
       rest = c.requires.rest;
+      made_none = refl;
       met = met-none _ _ (course-none _ c.requires.rest.belongs.live.legal) refl;
       left = subst (All (IsHired c.args.semaphore.now)) (sym all) c.requires.hired;
       all = let same = ap (λ l. length l) all in omega arith;
@@ -34,6 +35,7 @@ loop-given-preserved c =
         held_is = rest.held_is ∙ so_far.rest.held_is;
         waits_are = rest.waits_are;
       };
+      made_none = c.take_in.ensures.made_none ∙ so_far.made_none;
       met = rw length_push (met-then (length c.loop-given.yielded) 1 _ _ _ so_far.met c.take_in.ensures.met);
       left = All-tail (IsHired c.args.semaphore.now) c.in-Some.given _ left;
       all = rw length_push (let all = so_far.all in omega arith);

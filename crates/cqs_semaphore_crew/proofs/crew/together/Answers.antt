@@ -1,4 +1,4 @@
-use Rattle.std.proofs.Common.{rules, ◌*◌, ◌<◌, length, arith, subst, zero-add, ◌∙◌}
+use Rattle.std.proofs.Common.{rules, ◌*◌, ◌<◌, ap, length, arith, subst, zero-add, ◌∙◌}
 use Rattle.cqs_rule.specs.Passes.{pass_view}
 use Rattle.cqs_semaphore_crew.specs.Sums.{CountsRounds}
 use Rattle.cqs_semaphore_crew.specs.Workers.{HasMetAll}
@@ -10,6 +10,12 @@ returns-clause-met g c =
     subst (λ n. HasMetAll (pass_view c.args.pass.now) n (pass_view c.dismiss.new.pass))
     (zero-add _ ∙ (c.in_ok-worked.ensures.len ∙ c.in_ok-passes.ensures.many))
     (met-then 0 _ _ _ _ c.in_ok-passes.ensures.met c.dismiss.ensures.met)
+
+pub returns-clause-made : goal.returns-clause-made
+returns-clause-made g c =
+    let none = ap (λ l. length l) c.dismiss.ensures.made_none in
+    let hired = c.in_ok-passes.ensures.made in
+    omega arith
 
 pub returns-clause-rounds : goal.returns-clause-rounds
 returns-clause-rounds g c =

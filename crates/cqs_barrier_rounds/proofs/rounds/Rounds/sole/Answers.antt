@@ -39,8 +39,8 @@ loop-round-preserved c =
           (at-pass _ _ _ _ c.loop-round.invariant.mine low c.index_mut.ensures.value) c.sole.ensures.belongs;
       asked = called-up _ _ _ _ _ _ c.loop-round.invariant.asked
           (at-pass _ _ _ _ c.loop-round.invariant.mine low c.index_mut.ensures.value)
-          (asked-by _ _ _ c.sole.ensures.looked c.sole.ensures.alone c.sole.ensures.sole c.sole.ensures.others
-          c.sole.ensures.kept);
+          (asked-by _ _ _ c.sole.ensures.looked c.sole.ensures.made_none c.sole.ensures.alone c.sole.ensures.sole
+          c.sole.ensures.others c.sole.ensures.kept);
       alone = told.0;
       sole = told.1;
     }

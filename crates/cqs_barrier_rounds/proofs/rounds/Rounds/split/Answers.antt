@@ -79,7 +79,8 @@ returns-in-Err-clause-crowd c =
     λ crowd. crowded-at _ _ _ _ _ _ _ _ _ _ c.requires.enough c.loop-round.invariant.split
     c.loop-round.invariant.long c.take_in.ensures.taken (stands-at _ _ _ low c.index.ensures)
     (at-pass _ _ _ _ c.loop-round.invariant.mine low c.index_mut.ensures.value)
-    (c.in-Err.ensures.crowd.0 refl) c.in-Err.ensures.refused c.in-Err.ensures.kept
+    (c.in-Err.ensures.crowd.0 refl) c.in-Err.ensures.refused c.in-Err.ensures.made_none
+    c.in-Err.ensures.kept
 
 pub loop-round-preserved : goal.loop-round-preserved
 loop-round-preserved c =
@@ -97,7 +98,11 @@ loop-round-preserved c =
       split = rw c.push_reserved.ensures.items
           (split-more _ _ _ _ _ _ _ _ c.loop-round.invariant.split long
           (at-pass _ _ _ _ c.loop-round.invariant.mine low c.index_mut.ensures.value)
-          (record { gave = c.in-Ok.ensures.gave; came = c.in-Ok.ensures.came }));
+          (record {
+            gave = c.in-Ok.ensures.gave;
+            came = c.in-Ok.ensures.came;
+            made_one = c.in-Ok.ensures.made_one;
+          }));
       room = pairs-set (λ b q. made_in (pass_view q).crew < passes_of b.queue) _ _ _ _ _ _
           c.loop-round.invariant.room (stands-at _ _ _ low c.index.ensures)
           (at-pass _ _ _ _ c.loop-round.invariant.mine low c.index_mut.ensures.value)

@@ -127,4 +127,5 @@ returns-clause-hired c =
       sees = c.catch_up.ensures.all;
       own = own-looked _ _ c.catch_up.ensures.looked spare.own;
       unnamed = unnamed-looked _ _ c.catch_up.ensures.looked spare.own spare.unnamed;
+      childless = c.catch_up.ensures.made_none ∙ spare.childless;
     }

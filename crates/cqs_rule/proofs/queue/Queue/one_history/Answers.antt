@@ -1,4 +1,4 @@
-use Rattle.std.proofs.Common.{◌<◌, [], length, sym, ap, ◌∙◌, subst, arith}
+use Rattle.std.proofs.Common.{◌<◌, [], length, refl, sym, ap, ◌∙◌, subst, arith}
 use Rattle.std.proofs.lemmas.Option.{slice_get-get_or}
 use Rattle.cqs_rule_laws.proofs.Prefixes.{saw-prefix}
 use Rattle.cqs_rule_laws.specs.Saw.{Saw}
@@ -13,6 +13,7 @@ loop-heard-init g c = record {
   theirs = c.requires.others_belong;
   looked = looked-none g.C.ClientWords.object (pass_view c.args.pass.now);
   kept = λ a. a;
+  made_none = refl;
   told = told-none (pass_view c.args.pass.now) c.args.others.now;
 }
 
@@ -37,6 +38,7 @@ loop-heard-preserved g c =
           e.other_belongs;
       looked = looked-then o (pass_view c.args.pass.now) v w l.invariant.looked l.invariant.kept e.looked;
       kept = λ a. e.kept (l.invariant.kept a);
+      made_none = e.made_none ∙ l.invariant.made_none;
       told = told-more l.heard v w c.args.others.now l.others _ c.catch_up.new.other l.invariant.told there
           e.other_stays (saw-prefix o v (as_before v w) v.facts [] e.looked) e.all;
     }
@@ -50,6 +52,7 @@ loop-told-init g c =
       theirs = l.invariant.theirs;
       looked = l.invariant.looked;
       kept = l.invariant.kept;
+      made_none = l.invariant.made_none;
       heard = heard-none l.heard (pass_view l.pass) c.args.others.now l.others l.invariant.told (omega arith);
     }
 
@@ -74,8 +77,9 @@ loop-told-preserved g c =
       theirs = of-set c.args.self.now l.others l.told _ new.pass l.invariant.theirs there e.belongs;
       looked = subst (λ x. Saw o v v.facts [] (as_before v x)) (sym same) l.invariant.looked;
       kept = λ a. ap (λ x. x.alone) same ∙ l.invariant.kept a;
+      made_none = ap (λ x. x.made) same ∙ l.invariant.made_none;
       heard = heard-more l.told (pass_view l.pass) (pass_view new.other) c.args.others.now l.others _ new.pass
-          l.invariant.heard there e.looked e.kept e.all same;
+          l.invariant.heard there e.looked e.kept e.made_none e.all same;
     }
 
 pub returns-clause-others_looked : goal.returns-clause-others_looked

@@ -1,4 +1,5 @@
 use Rattle.std.proofs.Common.{◌≡◌, true}
+use Rattle.cqs_rule_laws.specs.Crew.{MadeNone}
 use Rattle.cqs_rule.specs.Histories.{AreOf}
 use Rattle.cqs_rule.specs.Passes.{pass_view, IsOf}
 use Rattle.cqs_rule.specs.Seats.{HasLookedOn}
@@ -12,6 +13,7 @@ invariant-loop-heard g l = record {
   theirs : AreOf l.self l.others;
   looked : HasLookedOn l.fn.pass l.pass;
   kept : (pass_view l.fn.pass).alone ≡ true → (pass_view l.pass).alone ≡ true;
+  made_none : MadeNone (pass_view l.fn.pass) (pass_view l.pass);
   told : HaveTold l.heard (pass_view l.pass) l.fn.others l.others;
 }
 
@@ -22,5 +24,6 @@ invariant-loop-told g l = record {
   theirs : AreOf l.self l.others;
   looked : HasLookedOn l.fn.pass l.pass;
   kept : (pass_view l.fn.pass).alone ≡ true → (pass_view l.pass).alone ≡ true;
+  made_none : MadeNone (pass_view l.fn.pass) (pass_view l.pass);
   heard : HaveHeard l.told (pass_view l.pass) l.fn.others l.others;
 }

@@ -1,4 +1,4 @@
-use Rattle.std.proofs.Common.{rules, [], ◌<◌, ◌∙◌, sym, refl, ap, subst, arith, true≢false}
+use Rattle.std.proofs.Common.{rules, [], ◌∷◌, ◌++◌, ◌<◌, ◌∙◌, sym, refl, ap, subst, arith, true≢false}
 use Rattle.cqs_rule_laws.specs.Crew.{IsSole, MayGive}
 use Rattle.cqs_rule_laws.specs.Saw.{Saw}
 use Rattle.cqs_rule_laws.specs.Views.{crew_turn, facts_lessened, as_before}
@@ -167,6 +167,19 @@ returns-then-found-saw-clause-gave g c =
     (cut-leaves C.object _ _ _ _ _ c.args.gives _ _ c.if-found-saw.true c.loop-pass.invariant.1 e.tried e.alive
     c.split_seat-seat.ensures.2).saw
 
+pub returns-then-found-saw-clause-made_one : goal.returns-then-found-saw-clause-made_one
+returns-then-found-saw-clause-made_one g c =
+    let C = g.C.ClientWords in
+    let cut = c.split_seat-seat.ensures in
+    let e = c.make-found.ensures in
+    let l = cut-leaves C.object _ _ _ _ _ c.args.gives _ _ c.if-found-saw.true c.loop-pass.invariant.1 e.tried e.alive
+    cut.2 in
+    let b = cut-begins C.object _ _ _ _ _ _ c.args.gives _ _ c.if-found-saw.true (omega arith)
+    (gives-few c.args.gives _ _ _ c.loop-pass.invariant.1.saw.facts_are c.requires.enough
+    c.loop-pass.invariant.0.live.few)
+    e.tried e.alive cut.2 cut.4 in
+    l.made_one ∙ ap (λ n. c.args.pass.now.seat.me.0.made ++ n ∷ []) (sym b.came.number)
+
 pub returns-then-found-saw-clause-looked : goal.returns-then-found-saw-clause-looked
 returns-then-found-saw-clause-looked g c = λ none.
     let C = g.C.ClientWords in
@@ -255,6 +268,9 @@ returns-clause-crowd g c =
 
 pub returns-clause-refused : goal.returns-clause-refused
 returns-clause-refused g c = c.loop-pass.invariant.1.saw
+
+pub returns-clause-made_none : goal.returns-clause-made_none
+returns-clause-made_none g c = c.loop-pass.invariant.1.made_none
 
 pub returns-clause-looked : goal.returns-clause-looked
 returns-clause-looked g c = λ none. c.loop-pass.invariant.1.saw

@@ -74,7 +74,8 @@ module _ {g : Ghosts BarrierClient (Unit {0}) BarrierEntry} where
       }
 
   pub asked-by : (p q : Pass BarrierClient (Unit {0}) BarrierEntry g) (result : Bool) → HasLookedOn p q
-      → MadeNone (pass_view p) (pass_view q) → result ≡ (pass_view q).alone → (IsTrue result ↔ live_in (pass_view q).crew ≡ 1)
+      → MadeNone (pass_view p) (pass_view q) → result ≡ (pass_view q).alone
+      → (IsTrue result ↔ live_in (pass_view q).crew ≡ 1)
       → (IsTrue result → IsAlone primitive_of (pass_view q))
       → ((pass_view p).alone ≡ true → (pass_view q).alone ≡ true) → HasAsked p q
   asked-by p q result looked none same sole others kept = record {

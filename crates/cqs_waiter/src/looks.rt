@@ -1,6 +1,6 @@
 //! The looks that a caller makes at its wait before it sleeps, or before others may run.
 
-ghost use Rattle.std.specs.Prelude.{◌≡◌, ◌+◌, ◌<◌, true, IsTrue};
+ghost use Rattle.std.specs.Prelude.{◌≡◌, ◌+◌, ◌<◌, true, false, IsTrue};
 ghost use mathlib.Core.Logic.{◌↔◌};
 
 use std::{hint, thread};
@@ -35,6 +35,7 @@ impl Looks {
     pub fn once_more(&mut self) -> bool
         ensures some { (result ≡ true) ↔ (0 < self.old.left) }
         ensures fewer { IsTrue result → self.new.left + 1 ≡ self.old.left }
+        ensures none { (result ≡ false) → self.new.left ≡ 0 }
     {
         if self.left == 0 {
             return false;

@@ -4,8 +4,10 @@ use Rattle.std.specs.Prelude.{slice_index}
 use Rattle.std.specs.List.{list_any}
 use Rattle.std.proofs.lemmas.Int.{ints}
 use Rattle.std.proofs.lemmas.List.{append-nil}
+use Rattle.std.proofs.lemmas.List.Elements.{All-nil}
 use Rattle.cqs_plan.specs.declared.plans.kind.Kind.{Kind}
 use Rattle.cqs_plan.specs.Floor.{size_of}
+use Rattle.cqs_plan.specs.LegalFloor.{BreaksNone}
 use Rattle.cqs_rule_laws.specs.declared.config.Place.{Place}
 use Rattle.cqs_core.specs.declared.calls.Call.TheVariants as call
 use Rattle.cqs_core.specs.declared.calls.Reply.{Reply}
@@ -41,7 +43,10 @@ pub core-lawful : IsLawful sole_core
 core-lawful = record {
   some = λ x kind room waiting held funded. omega (arith, funded.permits, funded.sole.core.range.some_permits);
   legal = λ x kind room waiting held funded.
-      subst (λ n. IsLegal n x.shape.history) funded.permits funded.sole.core.legal;
+      record {
+        legal = subst (λ n. IsLegal n x.shape.history) funded.permits funded.sole.core.legal;
+        unbroken = funded.sole.unbroken;
+      };
   numbered = λ x wait kind room waiting held funded has.
       let rests = funded-rests x (size_of kind) room waiting held funded in
       let read = read-wait x.shape funded.sole rests wait.index 0 has in
@@ -59,6 +64,7 @@ sole-opened permits some few = record {
   idle = idle-one;
   one = refl;
   untaken = record { at = λ k cell got. absurd (cc) };
+  unbroken = All-nil BreaksNone;
 }
 
 pub core-opened : (kind : Option Kind) (takes : ℕ) (x : Room) → 0 < size_of kind → size_of kind ≤ 1048576

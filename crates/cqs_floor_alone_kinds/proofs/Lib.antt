@@ -1,3 +1,4 @@
+pub mod Unbroken
 pub mod Stays
 pub mod SoleCells
 pub mod SoleMade

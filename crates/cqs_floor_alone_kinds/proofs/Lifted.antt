@@ -3,13 +3,12 @@ use Rattle.std.proofs.Common.{◌≡◌, ℕ, zero, suc, ◌+◌, ◌-◌, ◌<�
 use Rattle.std.proofs.lemmas.List.{append-nil, length_push}
 use Rattle.std.proofs.lemmas.List.Folds.{sum_by-replicate}
 use Rattle.std.proofs.lemmas.List.Sums.{sum_by-set}
-use Rattle.cqs_core.specs.SemaphoreEntries.{IsLegal}
 use Rattle.cqs_plan.specs.declared.plans.kind.Kind.{Kind}
 use Rattle.cqs_plan.specs.declared.plans.kind.Kind.TheVariants as kind
 use Rattle.cqs_plan.specs.declared.floors.answers.FloorEnd.TheVariants as end
 use Rattle.cqs_plan.specs.declared.floors.answers.FloorGive.TheVariants.{Free, Sent}
 use Rattle.cqs_plan.specs.FloorHistory.{of_permits}
-use Rattle.cqs_plan.specs.LegalFloor.{IsHistory}
+use Rattle.cqs_plan.specs.LegalFloor.{IsHistory, IsOfSemaphore}
 use Rattle.cqs_plan.specs.Floor.{size_of}
 use Rattle.cqs_rule_laws.specs.declared.config.Place.{Place}
 use Rattle.cqs_floor_common.specs.HeldElements.{held_by, with_less, with_more}
@@ -125,7 +124,7 @@ module _ {X : Type 0} (s : Sole X) where
   }
     where
       legal : (x : X) (kind : Kind) (room waiting : ℕ) (held : List (List ℕ)) → IsOfPermits (Some kind)
-          → IsLegal (size_of (Some kind)) (s.entries x) → IsHistory kind (of_permits (s.entries x))
+          → IsOfSemaphore (size_of (Some kind)) (s.entries x) → IsHistory kind (of_permits (s.entries x))
       legal x (kind.Semaphore n) room waiting held sort is = is
       legal x kind.Mutex room waiting held sort is = is
       legal x (kind.Pool n) room waiting held sort is = absurd sort

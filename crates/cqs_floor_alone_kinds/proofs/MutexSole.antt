@@ -48,7 +48,7 @@ use Rattle.cqs_floor_alone_kinds.proofs.PassRests.{Comes, empty-found, first-fou
 use Rattle.cqs_floor_alone_kinds.proofs.QueueSends.{HasLeft}
 
 pub mutex-lawful : IsLawful sole_mutex
-mutex-lawful = one-lawful mutex_pass (λ x belongs. belongs.mine.live.legal.legal)
+mutex-lawful = one-lawful mutex_pass (λ x belongs. belongs.mine.live.legal)
 
 -- a mutex as it is made
 pub mutex_opened : (x : MutexSole) (takes : ℕ) (config : Config) → takes ≤ 524288 → config.limit ≡ takes + 1

@@ -6,18 +6,19 @@ use Rattle.cqs_plan.specs.declared.plans.kind.Kind.{Kind}
 use Rattle.cqs_plan.specs.Floor.{size_of}
 use Rattle.cqs_core.specs.declared.entries.Entry.{Entry}
 use Rattle.cqs_core.specs.declared.entries.Entry.TheVariants as entry
-use Rattle.cqs_core.specs.SemaphoreEntries.{IsFirst, IsLegal, after_entry, at_door, object_after}
+use Rattle.cqs_core.specs.SemaphoreEntries.{IsFirst, after_entry, at_door, object_after}
 use Rattle.cqs_core.specs.SemaphoreObject.{Semaphore}
 use Rattle.cqs_rule_laws.specs.Lists.{Has, without}
 use Rattle.cqs_rule_laws.specs.declared.config.Place.{Place}
 use Rattle.cqs_rule_laws.proofs.Lists.{has_append, has_without, without_has}
+use Rattle.cqs_semaphore_client.specs.PlainHistories.{IsPlainHistory}
 use Rattle.cqs_semaphore.specs.Calls.{Rests, plain_after}
 use Rattle.cqs_semaphore.specs.Causes.{drawn_in}
 use Rattle.cqs_semaphore.proofs.States.{entered-next}
 use Rattle.cqs_floor_alone_kinds.specs.Soles.{Acquires, Cancels, EndsWait, IsLawful, Polls, Releases, is_in_line, object}
 use Rattle.cqs_floor_alone_kinds.specs.SoleQueue.{IsFunded, IsStill, OnePass, is_news, news, sole_of}
 use Rattle.cqs_floor_alone_kinds.specs.Waits.{WaitsAt}
-use Rattle.cqs_floor_alone_kinds.proofs.News.{news-legal, news-object}
+use Rattle.cqs_floor_alone_kinds.proofs.News.{news-object, news-plain}
 use Rattle.cqs_floor_alone_kinds.proofs.Objects.{left-next}
 use Rattle.cqs_floor_alone_kinds.proofs.PassRests.{Comes, IsNext, has-append, has-next, rests-next, still-left, still-sent, still-waiting}
 
@@ -28,12 +29,13 @@ module _ {X T : Type 0} (q : OnePass X T) where
   object-seen x kind is =
       news-object (size_of kind) (q.view x).seen ∙ ap (λ n. object_after n (q.view x).seen) (sym is)
 
-  pub one-lawful : ((x : X) → q.mine x → IsLegal (q.view x).opening.size (q.view x).seen) → IsLawful (sole_of q)
+  pub one-lawful : ((x : X) → q.mine x → IsPlainHistory (q.view x).opening.size (q.view x).seen)
+      → IsLawful (sole_of q)
   one-lawful legal = record {
     some = λ x kind room waiting held funded. funded.rests.some;
     legal = λ x kind room waiting held funded.
-        news-legal (size_of kind) (q.view x).seen
-        (subst (λ n. IsLegal n (q.view x).seen) funded.rests.size_is (legal x funded.mine));
+        news-plain (size_of kind) (q.view x).seen
+        (subst (λ n. IsPlainHistory n (q.view x).seen) funded.rests.size_is (legal x funded.mine));
     numbered = λ x wait kind room waiting held funded has.
         subst (λ (o : Semaphore). wait.index < o.next)
         (sym (object-seen x kind funded.rests.size_is))

@@ -27,7 +27,7 @@ use Rattle.cqs_floor_alone_kinds.proofs.PassRests.{empty-found, first-found, lat
 use Rattle.cqs_floor_alone_kinds.proofs.QueueSends.{HasLeft}
 
 pub queue-lawful : IsLawful sole_queue
-queue-lawful = one-lawful semaphore_pass (λ x mine. mine.live.legal.legal)
+queue-lawful = one-lawful semaphore_pass (λ x mine. mine.live.legal)
 
 module _ (x y : QueueSole) (mine : IsMine y.semaphore y.pass)
     (capacity : vec_capacity y.permits ≡ vec_capacity x.permits) where

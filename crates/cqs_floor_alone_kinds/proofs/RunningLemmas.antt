@@ -2,7 +2,7 @@
 use Rattle.std.proofs.Common.{ℕ, ◌<◌, Option, refl}
 use Rattle.cqs_plan.specs.declared.plans.kind.Kind.{Kind}
 use Rattle.cqs_plan.specs.Floor.{size_of}
-use Rattle.cqs_core.specs.SemaphoreEntries.{IsLegal}
+use Rattle.cqs_plan.specs.LegalFloor.{IsOfSemaphore}
 use Rattle.cqs_rule_laws.specs.declared.config.Place.{Place}
 use Rattle.cqs_floor_alone_kinds.specs.declared.running_sole.RunningSole.{RunningSole}
 use Rattle.cqs_floor_alone_kinds.specs.declared.running_sole.RunningSole.TheVariants.{Semaphore, Mutex}
@@ -40,7 +40,7 @@ running-lawful = record { some = some; legal = legal; numbered = numbered }
     some (Mutex x) kind room waiting held funded = mutex-lawful.some x kind room waiting held funded
 
     legal : (x : RunningSole) (kind : Option Kind) (room waiting held : ℕ)
-        → sole_running.funded x kind room waiting held → IsLegal (size_of kind) (sole_running.entries x)
+        → sole_running.funded x kind room waiting held → IsOfSemaphore (size_of kind) (sole_running.entries x)
     legal (Semaphore x) kind room waiting held funded = queue-lawful.legal x kind room waiting held funded
     legal (Mutex x) kind room waiting held funded = mutex-lawful.legal x kind room waiting held funded
 

@@ -1,14 +1,17 @@
 -- What a call of a core with one pass comes to.
-use Rattle.std.proofs.Common.{◌≡◌, ℕ, ◌+◌, ◌≤◌, List, Some, length, refl, sym, ap, ◌∙◌, length-set}
+use Rattle.std.proofs.Common.{◌≡◌, ℕ, ◌+◌, ◌≤◌, List, All, Some, length, refl, sym, ap, ◌∙◌, subst, length-set}
+use Rattle.std.proofs.lemmas.List.Elements.{All-append}
 use Rattle.cqs_core.specs.declared.calls.Call.{Call}
 use Rattle.cqs_core.specs.declared.calls.Reply.{Reply}
 use Rattle.cqs_core.specs.declared.calls.Reply.TheVariants as reply
 use Rattle.cqs_core.specs.SemaphoreAnswers.{Room}
 use Rattle.cqs_core.specs.SemaphoreCalls.{Course, refused, replied, stuck, course, MakesCallReady}
-use Rattle.cqs_core.specs.SemaphoreShown.{IsCore}
-use Rattle.cqs_core.specs.SoleCaller.{IsSoleCall, ShowsNext, caller, held_by}
+use Rattle.cqs_core.specs.SemaphoreShown.{IsCore, shown_semaphore}
+use Rattle.cqs_core.specs.SoleCaller.{IsSoleCall, ShowsNext, caller, held_by, sole_call}
 use Rattle.cqs_core.proofs.CallsKeep.{call_ready-core}
+use Rattle.cqs_plan.specs.LegalFloor.{BreaksNone}
 use Rattle.cqs_floor_alone_kinds.specs.SoleCore.{HasMade, IsReady}
+use Rattle.cqs_floor_alone_kinds.proofs.Unbroken.{call-breaks_none}
 
 -- a call changes what a pass holds, and not how many passes there are
 length-held_by : (held : List ℕ) (p : ℕ) (answer : Reply) → length (held_by held p answer) ≡ length held
@@ -46,6 +49,9 @@ made-sole old new c answer ready made sole next =
         idle = sole.idle;
         one = sym core.holders ∙ as_many ∙ ready.sole.core.holders ∙ ready.sole.one;
         untaken = sole.untaken ready.sole.untaken;
+        unbroken = subst (All BreaksNone) (sym sole.appended)
+            (All-append BreaksNone old.shape.history (sole_call (shown_semaphore old.shape) c).entries
+            ready.sole.unbroken (call-breaks_none (shown_semaphore old.shape) c));
       };
       spare = spare-made old new (course old.shape c) answer made;
     }

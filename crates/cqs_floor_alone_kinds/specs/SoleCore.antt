@@ -1,5 +1,5 @@
 -- A core with one pass, which makes one whole call after the other.
-use Rattle.std.specs.Prelude.{◌≡◌, ℕ, ◌+◌, ◌*◌, ◌<◌, ◌≤◌, length, slice_index, Bool, true, false, Option, Some, None}
+use Rattle.std.specs.Prelude.{◌≡◌, ℕ, ◌+◌, ◌*◌, ◌<◌, ◌≤◌, All, length, slice_index, Bool, true, false, Option, Some, None}
 use Rattle.cqs_core.specs.declared.calls.Call.{Call}
 use Rattle.cqs_core.specs.declared.calls.Reply.{Reply}
 use Rattle.cqs_core.specs.declared.calls.Reply.TheVariants as reply
@@ -12,6 +12,7 @@ use Rattle.cqs_core.specs.SemaphoreShown.{IsCore, shown_semaphore}
 use Rattle.cqs_core.specs.SemaphoreTable.{Shape, last_number}
 use Rattle.cqs_core.specs.SoleCaller.{HasWait, IsSoleCall, NoneTaken, ShowsNext}
 use Rattle.cqs_plan.specs.Floor.{size_of}
+use Rattle.cqs_plan.specs.LegalFloor.{BreaksNone}
 use Rattle.cqs_rule_laws.specs.declared.config.Place.{Place}
 use Rattle.cqs_rule_laws.specs.Placed.{place_at}
 use Rattle.cqs_floor_alone_kinds.specs.declared.any_sole.AnySole.{AnySole}
@@ -19,12 +20,14 @@ use Rattle.cqs_floor_alone_kinds.specs.AnySoles.{store_any}
 use Rattle.cqs_floor_alone_kinds.specs.Soles.{Sole}
 use Rattle.cqs_floor_alone_kinds.specs.Stores.{Store}
 
--- its one pass is between two calls, and no suspend ever found its value in its cell
+-- Its one pass is between two calls, no suspend ever found its value in its cell, and no number was
+-- broken.
 pub record IsSole (s : Shape) : Type 0 where
   pub core : IsCore s
   pub idle : IsIdle s.queue.doing
   pub one : length s.queue.doing ≡ 1
   pub untaken : NoneTaken s
+  pub unbroken : All BreaksNone s.history
 
 -- one more call may be made
 pub record IsReady (core : Room) : Type 0 where

@@ -5,11 +5,12 @@ use Rattle.std.specs.List.{list_any}
 use Rattle.cqs_core.specs.declared.entries.Entry.{Entry}
 use Rattle.cqs_core.specs.declared.entries.Entry.TheVariants as entry
 use Rattle.cqs_core.specs.QueueLine.{Waiting}
-use Rattle.cqs_core.specs.SemaphoreEntries.{IsFirst, IsLegal, object_after}
+use Rattle.cqs_core.specs.SemaphoreEntries.{IsFirst, object_after}
 use Rattle.cqs_core.specs.SemaphoreObject.{Semaphore}
 use Rattle.cqs_plan.specs.declared.plans.kind.Kind.{Kind}
 use Rattle.cqs_plan.specs.declared.plans.kind.Kind.TheVariants as kind
 use Rattle.cqs_plan.specs.Floor.{size_of}
+use Rattle.cqs_plan.specs.LegalFloor.{IsOfSemaphore}
 use Rattle.cqs_rule_laws.specs.declared.config.Place.{Place}
 use Rattle.cqs_floor_alone_kinds.specs.declared.sole.Stand.{Stand}
 
@@ -41,13 +42,13 @@ module _ {X : Type 0} (s : Sole X) where
   abbrev pub object : Option Kind → X → Semaphore
   object kind x = object_after (size_of kind) (s.entries x)
 
-  -- What every such semaphore keeps to: its entries are legal, and a wait that its caller has was
-  -- numbered before.
+  -- What every such semaphore keeps to: its entries are legal, and break no number; and a wait that
+  -- its caller has was numbered before.
   pub record IsLawful : Type 0 where
     pub some : (x : X) (kind : Option Kind) (room waiting held : ℕ)
         → s.funded x kind room waiting held → 0 < size_of kind
     pub legal : (x : X) (kind : Option Kind) (room waiting held : ℕ)
-        → s.funded x kind room waiting held → IsLegal (size_of kind) (s.entries x)
+        → s.funded x kind room waiting held → IsOfSemaphore (size_of kind) (s.entries x)
     pub numbered : (x : X) (wait : Place) (kind : Option Kind) (room waiting held : ℕ)
         → s.funded x kind room waiting held → s.has x wait → wait.index < (object kind x).next
 

@@ -1,9 +1,9 @@
 -- What the answers of a semaphore or a mutex that workers share have as entries.
-use Rattle.std.proofs.Common.{◌≡◌, ℕ, Bool, true, List, [], ◌∷◌, slice_index_or, sum_by, Option, Some, None, refl, ap, count_by}
+use Rattle.std.proofs.Common.{◌≡◌, ℕ, Bool, true, List, All, [], ◌∷◌, slice_index_or, sum_by, Option, Some, None, refl, ap, subst, count_by}
 use Rattle.std.specs.Bool.{if◌then◌else◌}
+use Rattle.std.proofs.lemmas.Option.{slice_get-get_or}
 use Rattle.cqs_core.specs.declared.entries.Entry.{Entry}
 use Rattle.cqs_core.specs.declared.entries.Entry.TheVariants as entry
-use Rattle.cqs_core.specs.SemaphoreEntries.{IsLegal}
 use Rattle.cqs_plan.specs.declared.plans.kind.Kind.{Kind}
 use Rattle.cqs_plan.specs.declared.plans.kind.Kind.TheVariants as kind
 use Rattle.cqs_plan.specs.declared.floors.answers.FloorTake.{FloorTake}
@@ -13,7 +13,9 @@ use Rattle.cqs_plan.specs.declared.floors.answers.FloorLeave.TheVariants as leav
 use Rattle.cqs_plan.specs.Floor.{size_of}
 use Rattle.cqs_plan.specs.FloorHistory.{of_permits}
 use Rattle.cqs_plan.specs.Language.{can_hold}
-use Rattle.cqs_plan.specs.LegalFloor.{IsHistory}
+use Rattle.cqs_plan.specs.LegalFloor.{BreaksNone, IsHistory}
+use Rattle.cqs_semaphore_client.specs.PlainHistories.{IsPlainHistory, IsUnbroken}
+use Rattle.cqs_semaphore_client.specs.PlainHistories.{BreaksNone as HasNoBreak}
 use Rattle.cqs_semaphore.specs.Causes.{is_enter}
 use Rattle.cqs_floor_shared.specs.declared.shared.SharedGive.{SharedGive}
 use Rattle.cqs_floor_shared.specs.declared.shared.SharedGive.TheVariants as shared
@@ -26,14 +28,22 @@ use Rattle.cqs_floor_shared_kinds.specs.Shares.{Funds, with_more}
 use Rattle.cqs_floor_shared_kinds.specs.ShareCalls.{parties_left}
 use Rattle.cqs_floor_shared_kinds.specs.PermitShares.{ArePermits}
 
--- a legal history of the size of the kind
-pub history-of : (k : Kind) (h : List Entry) → IsOfPermits k → IsLegal (size_of (Some k)) h
+-- a legal history of the size of the kind, in which no number is broken
+breaks-none : (h : List Entry) → IsUnbroken h → All BreaksNone h
+breaks-none h unbroken n d below c k = (λ is. subst HasNoBreak is whole, λ is. subst HasNoBreak is whole)
+  where
+    whole : HasNoBreak (slice_index_or h n d)
+    whole = unbroken.at n _ (slice_get-get_or h n d below)
+
+pub history-of : (k : Kind) (h : List Entry) → IsOfPermits k → IsPlainHistory (size_of (Some k)) h
     → IsHistory k (of_permits h)
-history-of (kind.Semaphore permits) h sort legal = legal
-history-of kind.Mutex h sort legal = legal
-history-of (kind.Pool elements) h sort legal = absurd sort
-history-of (kind.Latch count) h sort legal = absurd sort
-history-of (kind.Rounds parties rounds) h sort legal = absurd sort
+history-of (kind.Semaphore permits) h sort plain =
+    record { legal = plain.legal; unbroken = breaks-none h plain.unbroken }
+history-of kind.Mutex h sort plain =
+    record { legal = plain.legal; unbroken = breaks-none h plain.unbroken }
+history-of (kind.Pool elements) h sort plain = absurd sort
+history-of (kind.Latch count) h sort plain = absurd sort
+history-of (kind.Rounds parties rounds) h sort plain = absurd sort
 
 -- what the answers have as entries of a semaphore or a mutex
 pub come-is : (k : Kind) (round c : ℕ) (answer : FloorTake) (drew : Option ℕ) → IsOfPermits k

@@ -4,7 +4,6 @@ use Rattle.std.specs.Arc.{arc_value}
 use Rattle.std.proofs.lemmas.List.Sums.{sum_by-cons}
 use Rattle.cqs_core.specs.declared.entries.Entry.{Entry}
 use Rattle.cqs_core.specs.Parts.{Has, part}
-use Rattle.cqs_core.specs.SemaphoreEntries.{IsLegal}
 use Rattle.cqs_core.specs.SemaphoreNames.{entry_names}
 use Rattle.cqs_plan.specs.declared.plans.kind.Kind.{Kind}
 use Rattle.cqs_plan.specs.declared.plans.kind.Kind.TheVariants as kind
@@ -95,8 +94,8 @@ module _ (x given y : SharedPermits) (same_one : y.semaphore ≡ x.semaphore)
         staying = met.prefix;
         coming = met.prefix_other;
         legal = history-of a.kind w.seen funded.sort
-            (subst (λ n. IsLegal n w.seen) (ap (λ (o : Opening). o.size) met.opening ∙ r.size_is)
-            mine.live.legal.legal);
+            (subst (λ n. IsPlainHistory n w.seen) (ap (λ (o : Opening). o.size) met.opening ∙ r.size_is)
+            mine.live.legal);
         mine = λ n has. ap of_permits (met.mine n (subst (Has n) (sym r.numbers) has));
         theirs = λ n has. ap of_permits (met.theirs n (subst (Has n) (sym t.numbers) has));
         number = met.number;
@@ -172,7 +171,7 @@ permits-held (kind.Rounds parties rounds) sort = absurd sort
 pub permits-lawful : IsLawful share_permits
 permits-lawful = record {
   legal = λ x a funded. history-of a.kind _ funded.sort
-      (subst (λ n. IsLegal n (pass_view x.pass).seen) funded.rests.size_is funded.mine.live.legal.legal);
+      (subst (λ n. IsPlainHistory n (pass_view x.pass).seen) funded.rests.size_is funded.mine.live.legal);
   unnamed = λ x a funded n many. some-nothing _ (funded.mine.live.unnamed n many);
   held = λ x a funded. permits-held a.kind funded.sort;
   found = λ x a job funded there.

@@ -7,7 +7,6 @@ use Rattle.cqs_core.specs.declared.entries.Entry.{Entry}
 use Rattle.cqs_core.specs.declared.entries.Entry.TheVariants as entry
 use Rattle.cqs_core.specs.Numbered.{IsIn}
 use Rattle.cqs_core.specs.Parts.{Has, part}
-use Rattle.cqs_core.specs.SemaphoreEntries.{IsLegal}
 use Rattle.cqs_core.specs.SemaphoreNames.{entry_names}
 use Rattle.cqs_plan.specs.declared.floors.answers.FloorTake.TheVariants as take
 use Rattle.cqs_plan.specs.declared.floors.answers.FloorLook.TheVariants as look
@@ -25,6 +24,7 @@ use Rattle.cqs_rule.specs.Passes.{pass_view}
 use Rattle.cqs_semaphore_client.specs.Semaphore.{semaphore_object}
 use Rattle.cqs_rule.specs.Waits.{place_of}
 use Rattle.cqs_rule_laws.proofs.Lists.{has_left, without_has}
+use Rattle.cqs_semaphore_client.specs.PlainHistories.{IsPlainHistory}
 use Rattle.cqs_semaphore.specs.declared.answers.Acquired.TheVariants.{Now, Later}
 use Rattle.cqs_semaphore.specs.declared.answers.CancelAnswer.TheVariants.{Cancelled, TooLate}
 use Rattle.cqs_semaphore.specs.declared.answers.Permit.{Permit}
@@ -81,8 +81,8 @@ module _ (x y : SharedPermits) (same_one : y.semaphore ≡ x.semaphore)
         (ap (part entry_names n) (sym went.seen)
         ∙ mine.live.unnamed n (subst (λ p. p ≤ n) (sym went.same.passes) many)));
     legal = history-of a.kind w.seen funded.sort
-        (subst (λ n. IsLegal n w.seen) (ap (λ (o : Opening). o.size) went.same.opening ∙ funded.rests.size_is)
-        went.legal.legal);
+        (subst (λ n. IsPlainHistory n w.seen) (ap (λ (o : Opening). o.size) went.same.opening ∙ funded.rests.size_is)
+        went.legal);
     same = record {
       number = went.same.number;
       met = ap (λ (own : List ℕ). drop 1 own) went.same.own;

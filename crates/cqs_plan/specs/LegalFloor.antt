@@ -1,7 +1,9 @@
 -- A floor is legal where what happened at each resource is a legal history of what the resource
 -- is. A kind of resource that joins brings its object, and its word for a legal history of
 -- that object, to `IsHistory`.
-use Rattle.std.specs.Prelude.{◌≡◌, ℕ, false, List, Some, length, slice_get}
+use Rattle.std.specs.Prelude.{◌≡◌, ◌≢◌, ℕ, false, List, All, Some, length, slice_get}
+use Rattle.cqs_core.specs.declared.entries.Entry.{Entry}
+use Rattle.cqs_core.specs.declared.entries.Entry.TheVariants as entry
 use Rattle.cqs_core.specs.Numbered.{EachAt}
 use Rattle.cqs_core.specs.SemaphoreEntries.{IsLegal}
 use Rattle.cqs_pool_object.specs.PoolEntries.{IsLegal as IsLegalPool}
@@ -15,6 +17,15 @@ use Rattle.cqs_plan.specs.FloorHistory.{History, of_permits, of_elements, of_lat
 use Rattle.cqs_plan.specs.Floor.{PlainFloor, history_at}
 use Rattle.cqs_plan.specs.Runnable.{kinds_of}
 
+-- the entry breaks no number, and comes to none that is broken
+abbrev pub BreaksNone : Entry → Type 0
+BreaksNone e = (c k : ℕ) → (e ≢ entry.Spoil c k) × (e ≢ entry.Undo c k)
+
+-- of a semaphore with so many permits that isn't synchronous
+pub record IsOfSemaphore (permits : ℕ) (entries : List Entry) : Type 0 where
+  pub legal : IsLegal permits entries
+  pub unbroken : All BreaksNone entries
+
 -- of a barrier with so many parties and rounds: each round has its own history
 pub record AreRounds (parties rounds : ℕ) (all : List (List BarrierEntry)) : Type 0 where
   pub many : length all ≡ rounds
@@ -23,8 +34,8 @@ pub record AreRounds (parties rounds : ℕ) (all : List (List BarrierEntry)) : T
 -- this is a legal history of a resource of this kind, from its size on; the latches of a plan are
 -- smart
 abbrev pub IsHistory : Kind → History → Type 0
-IsHistory (kind.Semaphore permits) (of_permits entries) = IsLegal permits entries
-IsHistory kind.Mutex (of_permits entries) = IsLegal 1 entries
+IsHistory (kind.Semaphore permits) (of_permits entries) = IsOfSemaphore permits entries
+IsHistory kind.Mutex (of_permits entries) = IsOfSemaphore 1 entries
 IsHistory (kind.Pool elements) (of_elements entries) = IsLegalPool elements entries
 IsHistory (kind.Latch count) (of_latch entries) = IsLegalLatch false count entries
 IsHistory (kind.Rounds parties rounds) (of_rounds all) = AreRounds parties rounds all

@@ -42,7 +42,7 @@ pub record AreCrew (floors : List Shared) (told : List (List Waited)) (final : S
 -- the history of a semaphore
 permits-of : (size : ℕ) (h : History) → IsHistory (kind.Semaphore size) h
     → (l : List Entry) × (h ≡ of_permits l) × IsLegal size l
-permits-of size (of_permits l) legal = (l, refl, legal)
+permits-of size (of_permits l) legal = (l, refl, legal.legal)
 permits-of size (of_elements l) legal = absurd legal
 permits-of size (of_latch l) legal = absurd legal
 permits-of size (of_rounds all) legal = absurd legal

@@ -115,9 +115,9 @@ pub quiet-at : (k : Kind) (callers : ℕ) (h : History) → IsHistory k h
     → ((n : ℕ) → callers ≤ n → IsUnnamed n h)
     → (IsHoldable (Some k) → (c : ℕ) → c < callers → IsEvenOwn (own_history c h)) → IsQuietAt k h
 quiet-at (kind.Semaphore permits) callers (of_permits h) legal unnamed even =
-    even-semaphores permits callers h legal (names-below permit_names callers h unnamed) (even tt)
+    even-semaphores permits callers h legal.legal (names-below permit_names callers h unnamed) (even tt)
 quiet-at kind.Mutex callers (of_permits h) legal unnamed even =
-    even-semaphores 1 callers h legal (names-below permit_names callers h unnamed) (even tt)
+    even-semaphores 1 callers h legal.legal (names-below permit_names callers h unnamed) (even tt)
 quiet-at (kind.Pool elements) callers (of_elements h) legal unnamed even =
     even-pools elements callers h legal (names-below element_names callers h unnamed) (even tt)
 quiet-at (kind.Latch count) callers h legal unnamed even = tt

@@ -62,6 +62,7 @@ pub mod StepKeeps
 pub mod SemaphoreSteps
 pub mod CoreFacts
 pub mod UnbrokenMoves
+pub mod ReadSteps
 pub mod EitherFrame
 pub mod EitherSteps
 pub mod EitherRows
@@ -72,6 +73,8 @@ pub mod EitherTable
 pub mod EitherHands
 pub mod EitherRuns
 pub mod EitherFacts
+pub mod EitherQueues
+pub mod EitherCells
 pub mod PlainRows
 pub mod Broken
 pub mod RunsKeep

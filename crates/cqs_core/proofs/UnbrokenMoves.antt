@@ -90,7 +90,7 @@ module _ (q : Queue) where
     at = ap (λ t. unbroken_state t found.collected) works.at ∙ plain;
   }
 
-  owns-read : (p : ℕ) (found : CoreCell) → Owns p found → Owns p (unbroken_cell found)
+  pub owns-read : (p : ℕ) (found : CoreCell) → Owns p found → Owns p (unbroken_cell found)
   owns-read p found owns = record { owner = owns.owner; uncollected = owns.uncollected }
 
   opens-read : (m : Move) → IsOpen q m → IsOpen v (read_move m)
@@ -136,7 +136,7 @@ module _ (q : Queue) where
     doing = sym (map-set unwatching q.doing p d) i;
   }
 
-  drawn-read : (k p : ℕ) (found : Option CoreCell)
+  pub drawn-read : (k p : ℕ) (found : Option CoreCell)
       → cells_drawn v.cells k p (option_map unbroken_cell found) ≡ map unbroken_cell (cells_drawn q.cells k p found)
   drawn-read k p None =
       sym (map-append unbroken_cell q.cells (record { state = state.Empty; owner = Some p; collected = false } ∷ []))
@@ -144,7 +144,7 @@ module _ (q : Queue) where
       sym (map-set unbroken_cell q.cells k
       (record { state = found.state; owner = Some p; collected = found.collected }))
 
-  reached-read : (found : Option CoreCell)
+  pub reached-read : (found : Option CoreCell)
       → cells_reached v.cells (option_map unbroken_cell found) ≡ map unbroken_cell (cells_reached q.cells found)
   reached-read None = sym (map-append unbroken_cell q.cells (fresh_cell ∷ []))
   reached-read (Some found) = refl

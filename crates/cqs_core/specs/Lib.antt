@@ -10,6 +10,7 @@ pub mod QueueSound
 pub mod QueueOpening
 pub mod QueueSettled
 pub mod QueueStepSettled
+pub mod QueueEither
 pub mod QueueUnmade
 pub mod QueueAsRefused
 pub mod QueueAsUnbroken

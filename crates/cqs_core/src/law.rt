@@ -1,7 +1,7 @@
 //! The laws of the core, each as a function whose contract says it and whose body is empty.
 
 ghost use Rattle.cqs_core.specs.SemaphoreRuns.{EveryRunIsLegal};
-ghost use Rattle.cqs_core.specs.SemaphoreSteps.{EveryStepKeepsTheCore};
+ghost use Rattle.cqs_core.specs.SemaphoreSteps.{EveryStepKeepsTheCore, EveryStepKeepsTheSyncCore};
 ghost use Rattle.cqs_core.specs.SemaphoreCores.{EveryRunOfEitherIsLegal};
 ghost use Rattle.cqs_core.specs.BrokenCells.{EveryBrokenCellWasBrokenOnce};
 
@@ -32,4 +32,9 @@ pub fn broken_cells_were_broken_once()
 /// and appends its entries.
 pub fn semaphore_steps_keep_the_core()
     ensures { EveryStepKeepsTheCore }
+{}
+
+/// The same of a synchronous semaphore, whose resumes watch the values that they leave.
+pub fn sync_semaphore_steps_keep_the_core()
+    ensures { EveryStepKeepsTheSyncCore }
 {}

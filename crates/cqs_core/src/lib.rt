@@ -46,7 +46,7 @@ pub use errors::CoreError;
 pub use events::Event;
 pub use law::{
     broken_cells_were_broken_once, every_run_is_legal, every_run_of_either_is_legal,
-    semaphore_steps_keep_the_core,
+    semaphore_steps_keep_the_core, sync_semaphore_steps_keep_the_core,
 };
 pub use laws::{
     numbers_are_broken_once, one_permit_goes_to_the_first, permits_are_collected_once,

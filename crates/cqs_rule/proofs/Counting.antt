@@ -1,16 +1,20 @@
 -- A cell that a step settled is counted right after the step.
-use Rattle.std.proofs.Common.{◌≡◌, ◌≢◌, ℕ, ◌/◌, ◌<◌, ◌≤◌, ◌^◌, Bool, true, false, List, [], Some, ◌∷◌, length, Option, None, refl, ap, sym, ◌∙◌, subst, ⊎_elim, inl, inr, arith}
+use Rattle.std.proofs.Common.{◌≡◌, ◌≢◌, ℕ, ◌/◌, ◌<◌, ◌≤◌, ◌^◌, Bool, true, false, List, [], Some, ◌∷◌, length, ◌==◌, if◌then◌else◌, Option, None, refl, ap, sym, ◌∙◌, subst, ⊎_elim, inl, inr, arith}
 use Rattle.cqs_core.specs.declared.cells.CoreState.{CoreState}
 use Rattle.cqs_core.specs.declared.cells.CoreState.TheVariants as state
+use Rattle.cqs_core.specs.QueueStages.{IsUnmet}
 use Rattle.cqs_core.specs.QueueSteps.{QueueStep, row_of, StepRow, at_counter, at_cell}
 use Rattle.cqs_slots.specs.Layout.{slot_words}
 use Rattle.cqs_slots.specs.Slots.{IsHome}
 use Rattle.cqs_slots.proofs.Lists.{has_prefix, home-prefix}
 use Rattle.cqs_slots.proofs.Loads.{sees-then}
+use Rattle.cqs_words.specs.declared.cell.CellState.{CellState}
+use Rattle.cqs_words.specs.declared.cell.CellState.TheVariants as shown
+use Rattle.cqs_words.specs.declared.cell.CellWord.{CellWord}
 use Rattle.cqs_words.specs.Cell.{index_in, unpacked_cell}
 use Rattle.cqs_rule_laws.specs.declared.client.ClientWords.{Ghosts}
 use Rattle.cqs_rule_laws.specs.declared.loads.Learned.{Learned}
-use Rattle.cqs_rule_laws.specs.declared.loads.Learned.TheVariants.{Nothing, Granted, Ended}
+use Rattle.cqs_rule_laws.specs.declared.loads.Learned.TheVariants.{Nothing, Granted, Ended, Settled}
 use Rattle.cqs_rule_laws.specs.declared.view.Facts.{Facts}
 use Rattle.cqs_rule_laws.specs.declared.view.Glimpse.{Glimpse}
 use Rattle.cqs_rule_laws.specs.declared.view.Spare.{Spare}
@@ -23,7 +27,7 @@ use Rattle.cqs_rule_laws.specs.Inside.{IsInside}
 use Rattle.cqs_rule_laws.specs.Kinds.{change_by}
 use Rattle.cqs_rule_laws.specs.Layout.{words_for}
 use Rattle.cqs_rule_laws.specs.Lists.{Has, IsPrefix}
-use Rattle.cqs_rule_laws.specs.Loads.{LoadStep, counts, watches, polls, cancels, meets, misses, CarriesLearned, event_of, facts_looked, IsTicketOf, learned_of, learns, Loaded, Looked, MayLoad, MayLook, MayStand, served_in, told_at}
+use Rattle.cqs_rule_laws.specs.Loads.{LoadStep, counts, watches, polls, cancels, meets, misses, sees, finds, refused_in, cancelled_in, taken_in, broken_in, CarriesLearned, event_of, facts_looked, IsTicketOf, learned_of, learns, Loaded, Looked, MayLoad, MayLook, MayStand, served_in, told_at}
 use Rattle.cqs_rule_laws.specs.Object.{Object, Primitive}
 use Rattle.cqs_rule_laws.specs.Placed.{KnowsPlace, place_at}
 use Rattle.cqs_rule_laws.specs.Ruled.{number_at, shown_state, word_of}
@@ -113,14 +117,14 @@ module _ {E S : Type 0} where
   counted-last v u w s one nobody left full done =
       let first = subst (λ d. LeftBy [] v.facts.spare_slots d (retiring_too s v) u)
       (last-of-one v.facts.duties s one).1 left in
-      let then = then-retired v u w [] v.facts.spare_slots [] s nobody first done in record {
-        heads = then.0;
-        few = subst (λ d. length then.0 ≤ length d) (sym one) then.1;
+      let more = then-retired v u w [] v.facts.spare_slots [] s nobody first done in record {
+        heads = more.0;
+        few = subst (λ d. length more.0 ≤ length d) (sym one) more.1;
         full = λ q is.
             let same : q ≡ s = ap head_of (sym is ∙ one) in
             inr (subst (λ z. Has z w.segments.full) (sym same)
             (has_prefix s u.segments.full w.segments.full done.left.segments.full full));
-        left = then.2;
+        left = more.2;
         none = λ e. let not = sym one ∙ e in absurd (cc);
       }
 
@@ -136,6 +140,38 @@ abbrev pub LeavesToCount : {E S : Type 0} → Learned → ℕ → ℕ → ℕ �
 LeavesToCount Nothing word n number w = w.facts.duties ≡ []
 LeavesToCount Granted word n number w = IsToCount word (index_in n) w
 LeavesToCount Ended word n number w = IsToCount word number w
+LeavesToCount Settled word n number w = IsToCount word (index_in n) w
+
+-- A resume in smart and in simple mode learns nothing that only a synchronous one does.
+
+refused-else : (x : CellState) → refused_in x ≡ Settled → ⊥
+refused-else shown.Empty e = absurd (cc)
+refused-else shown.Waiter e = absurd (cc)
+refused-else shown.Value e = absurd (cc)
+refused-else shown.Taken e = absurd (cc)
+refused-else shown.Broken e = absurd (cc)
+refused-else shown.Resumed e = absurd (cc)
+refused-else shown.Cancelling e = absurd (cc)
+refused-else shown.Delegated e = absurd (cc)
+refused-else shown.Cancelled e = absurd (cc)
+refused-else shown.Refused e = absurd (cc)
+
+cancelled-else : (x : CellState) → cancelled_in x ≡ Settled → ⊥
+cancelled-else shown.Empty e = absurd (cc)
+cancelled-else shown.Waiter e = absurd (cc)
+cancelled-else shown.Value e = absurd (cc)
+cancelled-else shown.Taken e = absurd (cc)
+cancelled-else shown.Broken e = absurd (cc)
+cancelled-else shown.Resumed e = absurd (cc)
+cancelled-else shown.Cancelling e = absurd (cc)
+cancelled-else shown.Delegated e = absurd (cc)
+cancelled-else shown.Cancelled e = absurd (cc)
+cancelled-else shown.Refused e = absurd (cc)
+
+never-in : (by : CellState → Learned) → ((x : CellState) → by x ≡ Settled → ⊥) → (o : Option CellWord)
+    → learned_of by o ≡ Settled → ⊥
+never-in by none None e = absurd (cc)
+never-in by none (Some cell) e = none cell.state e
 
 module _ {E S : Type 0} (gains : ℕ → ℕ) (word n number : ℕ) (v w : View E S) (owed : is_owing v.facts.doing ≡ true)
     (waits : w.facts.waits ≡ v.facts.waits) where
@@ -146,14 +182,25 @@ module _ {E S : Type 0} (gains : ℕ → ℕ) (word n number : ℕ) (v w : View 
   goes-on Granted carries owes duties =
       let fewer = carries.waits in let same = ap length waits in absurd (omega arith)
   goes-on Ended carries owes duties = let over = carries.owes in absurd (cc)
+  goes-on Settled carries owes duties = let over = carries.owes in absurd (cc)
 
   -- or it ended at the cell of its ticket
-  ends-there : (learned : Learned) → CarriesLearned gains learned v.facts w.facts → is_owing w.facts.doing ≡ false
+  ends-there : (learned : Learned) → (learned ≡ Settled → ⊥) → CarriesLearned gains learned v.facts w.facts
+      → is_owing w.facts.doing ≡ false
       → IsToCount word number w → LeavesToCount learned word n number w
-  ends-there Nothing carries owes duties = let still = carries.owes in absurd (cc)
-  ends-there Granted carries owes duties =
+  ends-there Nothing other carries owes duties = let still = carries.owes in absurd (cc)
+  ends-there Granted other carries owes duties =
       let fewer = carries.waits in let same = ap length waits in absurd (omega arith)
-  ends-there Ended carries owes duties = duties
+  ends-there Ended other carries owes duties = duties
+  ends-there Settled other carries owes duties = absurd (other refl)
+
+either-learned : (n k : ℕ) → learns meets k n ≡ Settled → learned_of refused_in (unpacked_cell n) ≡ Settled
+either-learned n k e = by (index_in n == k) e
+  where
+    by : (b : Bool) → (if b then learned_of refused_in (unpacked_cell n) else Nothing) ≡ Settled
+        → learned_of refused_in (unpacked_cell n) ≡ Settled
+    by true e = e
+    by false e = absurd (cc)
 
 module _ {C E S : Type 0} (object : Object E) (primitive : C → Primitive E S) where
   module _ (load : LoadStep) (k n : ℕ) (v w : View E S) (l : Looked object primitive load k v n w) where
@@ -171,10 +218,10 @@ module _ {C E S : Type 0} (object : Object E) (primitive : C → Primitive E S) 
         (λ own. own ∙ (λ i. word_of (l.number i) (is i) l.glimpse.payload))
         (λ gone. absurd (apart (sym is ∙ gone.0))) l.cell.word
 
-    owner-learned : (s : CoreState) → l.glimpse.state ≡ s → s ≢ state.Cancelled
-        → learned_of served_in (unpacked_cell n) ≡ served_in (shown_state s)
-    owner-learned s is apart = ap (λ z. learned_of served_in (unpacked_cell z)) (word-at s is apart)
-        ∙ word-learned served_in k s l.glimpse.payload low l.cell.fits
+    cell-learned : (by : CellState → Learned) (s : CoreState) → l.glimpse.state ≡ s → s ≢ state.Cancelled
+        → learned_of by (unpacked_cell n) ≡ by (shown_state s)
+    cell-learned by s is apart = ap (λ z. learned_of by (unpacked_cell z)) (word-at s is apart)
+        ∙ word-learned by k s l.glimpse.payload low l.cell.fits
 
     -- the cell is to be counted, where the step settled it
     one-more : (word j : ℕ) → j ≡ k → KnowsPlace v (place_at word k) → v.facts.duties ≡ []
@@ -194,16 +241,17 @@ module _ {C E S : Type 0} (object : Object E) (primitive : C → Primitive E S) 
   to-count watches learned word k n number v w l place may none ticket is carries = absurd may
   to-count polls learned word k n number v w l place may none ticket is carries = by l.glimpse.state refl l.may
     where
-      by : (s : CoreState) → l.glimpse.state ≡ s → MayStand polls s → LeavesToCount learned word n number w
+      by : (s : CoreState) → l.glimpse.state ≡ s → MayStand v.opening.sync polls s
+          → LeavesToCount learned word n number w
       by state.Empty e stand = absurd stand
       by state.Waiter e stand = subst (λ z. LeavesToCount z word n number w)
-          (sym (is ∙ owner-learned polls k n v w l state.Waiter e (λ z. absurd (cc))))
+          (sym (is ∙ cell-learned polls k n v w l served_in state.Waiter e (λ z. absurd (cc))))
           (ap (λ (f : Facts). f.duties) (facts-at polls k n v w l state.Waiter e) ∙ none)
       by state.Value e stand = absurd stand
       by state.Taken e stand = absurd stand
       by state.Broken e stand = absurd stand
       by state.Resumed e stand = subst (λ z. LeavesToCount z word n number w)
-          (sym (is ∙ owner-learned polls k n v w l state.Resumed e (λ z. absurd (cc))))
+          (sym (is ∙ cell-learned polls k n v w l served_in state.Resumed e (λ z. absurd (cc))))
           (one-more polls k n v w l word (index_in n)
           (ap index_in (word-at polls k n v w l state.Resumed e (λ z. absurd (cc)))
           ∙ word-number k state.Resumed l.glimpse.payload l.cell.fits) place none
@@ -214,16 +262,17 @@ module _ {C E S : Type 0} (object : Object E) (primitive : C → Primitive E S) 
       by state.Refused e stand = absurd stand
   to-count cancels learned word k n number v w l place may none ticket is carries = by l.glimpse.state refl l.may
     where
-      by : (s : CoreState) → l.glimpse.state ≡ s → MayStand cancels s → LeavesToCount learned word n number w
+      by : (s : CoreState) → l.glimpse.state ≡ s → MayStand v.opening.sync cancels s
+          → LeavesToCount learned word n number w
       by state.Empty e stand = absurd stand
       by state.Waiter e stand = subst (λ z. LeavesToCount z word n number w)
-          (sym (is ∙ owner-learned cancels k n v w l state.Waiter e (λ z. absurd (cc))))
+          (sym (is ∙ cell-learned cancels k n v w l served_in state.Waiter e (λ z. absurd (cc))))
           (ap (λ (f : Facts). f.duties) (facts-at cancels k n v w l state.Waiter e) ∙ none)
       by state.Value e stand = absurd stand
       by state.Taken e stand = absurd stand
       by state.Broken e stand = absurd stand
       by state.Resumed e stand = subst (λ z. LeavesToCount z word n number w)
-          (sym (is ∙ owner-learned cancels k n v w l state.Resumed e (λ z. absurd (cc))))
+          (sym (is ∙ cell-learned cancels k n v w l served_in state.Resumed e (λ z. absurd (cc))))
           (one-more cancels k n v w l word (index_in n)
           (ap index_in (word-at cancels k n v w l state.Resumed e (λ z. absurd (cc)))
           ∙ word-number k state.Resumed l.glimpse.payload l.cell.fits) place none
@@ -259,7 +308,8 @@ module _ {C E S : Type 0} (object : Object E) (primitive : C → Primitive E S) 
           (ap (λ (f : Facts). is_owing f.doing) at) (ap (λ (f : Facts). f.duties) at ∙ none)
       by state.Refused e =
           let at = facts-at meets k n v w l state.Refused e in
-          ends-there object.gains.held word n number v w owed (ap (λ (f : Facts). f.waits) at) learned carries
+          ends-there object.gains.held word n number v w owed (ap (λ (f : Facts). f.waits) at) learned
+          (λ e. never-in refused_in refused-else (unpacked_cell n) (either-learned n k (sym is ∙ e))) carries
           (ap (λ (f : Facts). is_owing f.doing) at)
           (one-more meets k n v w l word number (ticket k may) place none (ap (λ (f : Facts). f.duties) at))
   to-count misses learned word k n number v w l place may none ticket is carries = by l.glimpse.state refl
@@ -285,10 +335,68 @@ module _ {C E S : Type 0} (object : Object E) (primitive : C → Primitive E S) 
       by state.Delegated e = quietly state.Delegated e refl
       by state.Cancelled e =
           let at = facts-at misses k n v w l state.Cancelled e in
-          ends-there object.gains.held word n number v w owed (ap (λ (f : Facts). f.waits) at) learned carries
+          ends-there object.gains.held word n number v w owed (ap (λ (f : Facts). f.waits) at) learned
+          (λ e. never-in cancelled_in cancelled-else (unpacked_cell n) (sym is ∙ e)) carries
           (ap (λ (f : Facts). is_owing f.doing) at)
           (one-more misses k n v w l word number (ticket k may) place none (ap (λ (f : Facts). f.duties) at))
       by state.Refused e = quietly state.Refused e refl
+  to-count sees learned word k n number v w l place may none ticket is carries = by l.glimpse.state refl l.may
+    where
+      by : (s : CoreState) → l.glimpse.state ≡ s → MayStand v.opening.sync sees s
+          → LeavesToCount learned word n number w
+      by state.Value e stand = subst (λ z. LeavesToCount z word n number w)
+          (sym (is ∙ cell-learned sees k n v w l taken_in state.Value e (λ z. absurd (cc))))
+          (ap (λ (f : Facts). f.duties) (facts-at sees k n v w l state.Value e) ∙ none)
+      by state.Taken e stand = subst (λ z. LeavesToCount z word n number w)
+          (sym (is ∙ cell-learned sees k n v w l taken_in state.Taken e (λ z. absurd (cc))))
+          (one-more sees k n v w l word (index_in n)
+          (ap index_in (word-at sees k n v w l state.Taken e (λ z. absurd (cc)))
+          ∙ word-number k state.Taken l.glimpse.payload l.cell.fits) place none
+          (ap (λ (f : Facts). f.duties) (facts-at sees k n v w l state.Taken e)))
+      by state.Empty e stand = absurd stand
+      by state.Waiter e stand = absurd stand
+      by state.Broken e stand = absurd stand
+      by state.Resumed e stand = absurd stand
+      by state.Cancelling e stand = absurd stand
+      by state.Delegated e stand = absurd stand
+      by state.Cancelled e stand = absurd stand
+      by state.Refused e stand = absurd stand
+  to-count finds learned word k n number v w l place may none ticket is carries =
+      by l.glimpse.state refl (unmet v.opening.sync l.glimpse.state l.may)
+    where
+      unmet : (sync : Bool) (s : CoreState) → MayStand sync finds s → IsUnmet s
+      unmet true s stand = stand
+      unmet false state.Empty stand = tt
+      unmet false state.Value stand = tt
+      unmet false state.Waiter stand = stand
+      unmet false state.Taken stand = stand
+      unmet false state.Broken stand = absurd stand
+      unmet false state.Resumed stand = stand
+      unmet false state.Cancelling stand = stand
+      unmet false state.Delegated stand = stand
+      unmet false state.Cancelled stand = stand
+      unmet false state.Refused stand = stand
+
+      by : (s : CoreState) → l.glimpse.state ≡ s → IsUnmet s → LeavesToCount learned word n number w
+      by state.Empty e stand = subst (λ z. LeavesToCount z word n number w)
+          (sym (is ∙ cell-learned finds k n v w l broken_in state.Empty e (λ z. absurd (cc))))
+          (ap (λ (f : Facts). f.duties) (facts-at finds k n v w l state.Empty e) ∙ none)
+      by state.Value e stand = subst (λ z. LeavesToCount z word n number w)
+          (sym (is ∙ cell-learned finds k n v w l broken_in state.Value e (λ z. absurd (cc))))
+          (ap (λ (f : Facts). f.duties) (facts-at finds k n v w l state.Value e) ∙ none)
+      by state.Broken e stand = subst (λ z. LeavesToCount z word n number w)
+          (sym (is ∙ cell-learned finds k n v w l broken_in state.Broken e (λ z. absurd (cc))))
+          (one-more finds k n v w l word (index_in n)
+          (ap index_in (word-at finds k n v w l state.Broken e (λ z. absurd (cc)))
+          ∙ word-number k state.Broken l.glimpse.payload l.cell.fits) place none
+          (ap (λ (f : Facts). f.duties) (facts-at finds k n v w l state.Broken e)))
+      by state.Waiter e stand = absurd stand
+      by state.Taken e stand = absurd stand
+      by state.Resumed e stand = absurd stand
+      by state.Cancelling e stand = absurd stand
+      by state.Delegated e stand = absurd stand
+      by state.Cancelled e stand = absurd stand
+      by state.Refused e stand = absurd stand
 
   -- what any load leaves it
   pub loaded-leaves : (load : LoadStep) (learned : Learned) (word n number : ℕ) (v w : View E S)
@@ -308,6 +416,10 @@ module _ {C E S : Type 0} (object : Object E) (primitive : C → Primitive E S) 
       (is ∙ ap (λ z. learns meets z n) (ap number_at may.2)) carries
   loaded-leaves misses learned word n number v w l may none ticket is carries =
       to-count misses learned word may.0 n number v w (l may.0 may.1 may.2) may.1 may.2 none ticket is carries
+  loaded-leaves sees learned word n number v w l may none ticket is carries =
+      to-count sees learned word may.0 n number v w (l may.0 may.1 may.2) may.1 may.2 none ticket is carries
+  loaded-leaves finds learned word n number v w l may none ticket is carries =
+      to-count finds learned word may.0 n number v w (l may.0 may.1 may.2) may.1 may.2 none ticket is carries
 
   -- what is told of a load after which the cell that it settled was counted
   pub told-loaded : (load : LoadStep) (word n : ℕ) (v u w : View E S) → v.facts.duties ≡ []
@@ -322,6 +434,8 @@ module _ {C E S : Type 0} (object : Object E) (primitive : C → Primitive E S) 
   told-loaded cancels word n v u w none l k = (u, l, k)
   told-loaded meets word n v u w none l k = (u, l, k)
   told-loaded misses word n v u w none l k = (u, l, k)
+  told-loaded sees word n v u w none l k = (u, l, k)
+  told-loaded finds word n v u w none l k = (u, l, k)
 
   -- no load leaves the pass a segment to retire
   looked-retires : (event : Option QueueStep) (n : ℕ) (g : Glimpse) (f : Facts)
@@ -347,6 +461,8 @@ module _ {C E S : Type 0} (object : Object E) (primitive : C → Primitive E S) 
   loaded-retires cancels word n v w l may = one-retires cancels may.0 n v w (l may.0 may.1 may.2)
   loaded-retires meets word n v w l may = one-retires meets may.0 n v w (l may.0 may.1 may.2)
   loaded-retires misses word n v w l may = one-retires misses may.0 n v w (l may.0 may.1 may.2)
+  loaded-retires sees word n v w l may = one-retires sees may.0 n v w (l may.0 may.1 may.2)
+  loaded-retires finds word n v w l may = one-retires finds may.0 n v w (l may.0 may.1 may.2)
 
   -- nor does an exchange that was made
   pub crossed-retires : (s : QueueStep) (row : StepRow) (k expected : ℕ) (v : View E S) (n : ℕ) (w : View E S)

@@ -7,6 +7,7 @@ pub mod Looked
 pub mod Moved
 pub mod Numbers
 pub mod Places
+pub mod PlainQueues
 pub mod Slots
 pub mod Ticketless
 pub mod Words

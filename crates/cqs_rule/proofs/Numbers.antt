@@ -29,6 +29,7 @@ ticket-of stage.idle n k e = absurd (cc)
 ticket-of stage.door n k e = absurd (cc)
 ticket-of stage.owes n k e = absurd (cc)
 ticket-of stage.drawn n k e = absurd (cc)
+ticket-of stage.watching n k e = absurd (cc)
 ticket-of stage.leaving n k e = absurd (cc)
 ticket-of (stage.decided on) n k e = absurd (cc)
 

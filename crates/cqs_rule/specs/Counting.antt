@@ -3,7 +3,7 @@ use Rattle.std.specs.Prelude.{◌≡◌, ◌⊎◌, ℕ, ◌≤◌, Bool, true, 
 use Rattle.cqs_rule_laws.specs.declared.view.Facts.{Facts}
 use Rattle.cqs_rule_laws.specs.declared.view.View.{View}
 use Rattle.cqs_rule_laws.specs.Lists.{Has}
-use Rattle.cqs_rule_laws.specs.Loads.{LoadStep, counts, watches, polls, cancels, meets, misses, Loaded}
+use Rattle.cqs_rule_laws.specs.Loads.{LoadStep, counts, watches, polls, cancels, meets, misses, sees, finds, Loaded}
 use Rattle.cqs_rule_laws.specs.Object.{Object, Primitive}
 use Rattle.cqs_rule_laws.specs.SegmentSteps.{LeftBy}
 
@@ -49,3 +49,5 @@ module _ {C E S : Type 0} (object : Object E) (primitive : C → Primitive E S) 
   LoadedThen cancels word v n w = ThenCounted (Loaded object primitive cancels word v n) w
   LoadedThen meets word v n w = ThenCounted (Loaded object primitive meets word v n) w
   LoadedThen misses word v n w = ThenCounted (Loaded object primitive misses word v n) w
+  LoadedThen sees word v n w = ThenCounted (Loaded object primitive sees word v n) w
+  LoadedThen finds word v n w = ThenCounted (Loaded object primitive finds word v n) w

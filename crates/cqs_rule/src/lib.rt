@@ -29,12 +29,13 @@ mod threads;
 
 pub use callbacks::Client;
 pub use cqs_rule_laws::{
-    AcquireError, Begins, CELLS_WORD, CLIENT_WORD, CREW_WORD, CancelMode, Cancels, Carries, Change,
-    ClientWords, Config, Counts, Crowd, Crowded, Delegates, Drawn, Draws, Enters, Facts, Glimpse,
-    Has, Installs, Kept, Key, Kind, Learned, Leaves, LeavesAtOnce, LeavesLine, Load, MakeError,
-    MeetError, Meets, Misses, Opening, Place, Polls, RESUMES_WORD, Reaches, Refuses, RefusesValue,
-    Rule, SLOT_STRIDE, SUSPENDS_WORD, Serves, Settles, SettlesOwing, Shown, Sighting, Silent,
-    Spare, StartsLeaving, Takes, Unparked, View, Waits, Watches,
+    AcquireError, Begins, Breaks, CELLS_WORD, CLIENT_WORD, CREW_WORD, CancelMode, Cancels, Carries,
+    Change, ClientWords, Config, Counts, Crowd, Crowded, Delegates, Drawn, Draws, Enters, Facts,
+    Finds, Glimpse, Has, Installs, Kept, Key, Kind, Learned, Leaves, LeavesAtOnce, LeavesLine,
+    LeavesWatched, Load, MakeError, MeetError, Meets, Misses, Opening, Place, Polls, RESUMES_WORD,
+    Reaches, Refuses, RefusesValue, Rule, SLOT_STRIDE, SUSPENDS_WORD, Sees, Serves, Settles,
+    SettlesOwing, Shown, Sighting, Silent, Spare, StartsLeaving, Takes, TakesWatched, Unparked,
+    View, Waits, Watches,
 };
 pub use cqs_segment::{CELLS, Found as FoundSegment};
 pub use queue::{Pass, Queue, Under, Wait};

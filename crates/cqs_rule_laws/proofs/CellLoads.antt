@@ -1,6 +1,6 @@
 -- A load of a cell. What it shows, if it shows a step of the queue, is a row of its table: the owner of a wait learns
 -- what became of it, and a resume meets a cell that is settled.
-use Rattle.std.proofs.Common.{◌≡◌, ◌≢◌, ◌⊎◌, ℕ, ◌<◌, ◌^◌, true, false, [], ◌++◌, sym, refl, ap, ◌∙◌, subst, ⊎_elim, inl, inr, arith, Option, Some, None, eq-eqb, ne_eqb, if◌then◌else◌}
+use Rattle.std.proofs.Common.{◌≡◌, ◌≢◌, ◌⊎◌, ℕ, ◌<◌, ◌^◌, Bool, true, false, [], ◌++◌, sym, refl, ap, ◌∙◌, subst, ⊎_elim, inl, inr, arith, Option, Some, None, eq-eqb, ne_eqb, if◌then◌else◌}
 use Rattle.std.specs.Prelude.{slice_index, slice_set}
 use mathlib.Core.Logic.{dite}
 use native.Mathlib.Decide.{ℕ_discrete}
@@ -13,10 +13,10 @@ use lib.ListN.{get_elem?}
 use Rattle.atomic_table.specs.Table.{State, Me, Act, keeps, step, stepped, carried_after, Valid, Allows}
 use Rattle.cqs_core.specs.declared.cells.CoreState.{CoreState}
 use Rattle.cqs_core.specs.declared.cells.CoreState.TheVariants as state
-use Rattle.cqs_core.specs.QueueSound.{IsSound}
+use Rattle.cqs_core.specs.QueueEither.{IsSoundEither}
 use Rattle.cqs_core.specs.QueueStages as stage
-use Rattle.cqs_core.specs.QueueStages.{Stage, doing_at, MayFind, MayWork}
-use Rattle.cqs_core.specs.QueueSteps.{wait_stays, wait_closes, nothing, its_own, QueueStep, looks, pends, grants, late, passes_over, ends_refused, ends_missed, row_of, CellRow, at_cell, payload_told, IsOpenRow}
+use Rattle.cqs_core.specs.QueueStages.{Stage, doing_at, MayMeet, MayFind, MayWork}
+use Rattle.cqs_core.specs.QueueSteps.{wait_stays, wait_closes, nothing, its_own, QueueStep, looks, pends, grants, late, passes_over, ends_refused, ends_missed, in_sync, sees_value, sees_taken, finds_broken, row_of, CellRow, at_cell, payload_told, IsOpenRow}
 use Rattle.cqs_core.proofs.QueueRows.{row-of}
 use Rattle.cqs_core.proofs.QueueUniform.{IsCellRow, IsAtCell}
 use Rattle.cqs_words.specs.declared.cell.CellState.{CellState}
@@ -27,6 +27,7 @@ use Rattle.cqs_rule_laws.specs.declared.loads.Learned.TheVariants.{Nothing}
 use Rattle.cqs_rule_laws.specs.declared.view.View.{View}
 use Rattle.cqs_rule_laws.specs.declared.view.Facts.{Facts}
 use Rattle.cqs_rule_laws.specs.declared.view.Glimpse.{Glimpse}
+use Rattle.cqs_rule_laws.specs.declared.view.Opening.{Opening}
 use Rattle.cqs_rule_laws.specs.Client.{IsClient}
 use Rattle.cqs_rule_laws.specs.Exchanges.{IsOwnWait, FoundCell, HasCell}
 use Rattle.cqs_rule_laws.specs.Facts.{facts_after, facts_worked, facts_watched, is_owing}
@@ -37,7 +38,7 @@ use Rattle.cqs_rule_laws.specs.Settling.{settles_row, duties_in}
 use Rattle.cqs_rule_laws.specs.Inside.{IsInside}
 use Rattle.cqs_rule_laws.specs.Layout.{client_words, words_for}
 use Rattle.cqs_rule_laws.specs.Lists.{IsDistinct}
-use Rattle.cqs_rule_laws.specs.Loads.{LoadStep, counts, watches, polls, cancels, meets, misses, event_of, LoadSuits, served_in, refused_in, cancelled_in, learned_of, learns, IsTicketOf, MayStand, told_at, facts_looked, MayLook, MayLoad, CarriesLearned, look_entries, Looked, LoadedCell, loaded_by}
+use Rattle.cqs_rule_laws.specs.Loads.{LoadStep, counts, watches, polls, cancels, meets, misses, sees, finds, event_of, LoadSuits, served_in, refused_in, cancelled_in, taken_in, broken_in, learned_of, learns, IsTicketOf, MayStand, told_at, facts_looked, MayLook, MayLoad, CarriesLearned, look_entries, Looked, LoadedCell, loaded_by}
 use Rattle.cqs_rule_laws.specs.Manner.{Manner, Suits, IsSmart}
 use Rattle.cqs_rule_laws.specs.Object.{Object, Primitive}
 use Rattle.cqs_rule_laws.specs.Placed.{KnowsPlace, place_at}
@@ -64,6 +65,8 @@ stage_of polls = stage.idle
 stage_of cancels = stage.idle
 stage_of meets = stage.ticket
 stage_of misses = stage.ticket
+stage_of sees = stage.watching
+stage_of finds = stage.drawn
 
 -- what a load that finds the state learns
 abbrev learned_at : LoadStep → CoreState → Learned
@@ -73,6 +76,8 @@ learned_at polls x = served_in (shown_state x)
 learned_at cancels x = served_in (shown_state x)
 learned_at meets x = refused_in (shown_state x)
 learned_at misses x = cancelled_in (shown_state x)
+learned_at sees x = taken_in (shown_state x)
+learned_at finds x = broken_in (shown_state x)
 
 -- what a pass learns from the word of a cell in this state
 pub word-learned : (by : CellState → Learned) (k : ℕ) (x : CoreState) (payload : ℕ) → k < 2 ^ 40 → payload < 2 ^ 20
@@ -89,6 +94,8 @@ IsTicketLoad polls = ⊥
 IsTicketLoad cancels = ⊥
 IsTicketLoad meets = Unit {0}
 IsTicketLoad misses = Unit {0}
+IsTicketLoad sees = ⊥
+IsTicketLoad finds = ⊥
 
 learned-is : (load : LoadStep) (k : ℕ) (x : CoreState) (payload : ℕ) → k < 2 ^ 40 → payload < 2 ^ 20
     → (j : ℕ) → (IsTicketLoad load → j ≡ k) → learns load j (word_of k x payload) ≡ learned_at load x
@@ -101,6 +108,8 @@ learned-is meets k x payload low fits j at =
     (eq-eqb (index_in (word_of k x payload)) j (word-number k x payload fits ∙ sym (at tt)))
     ∙ word-learned refused_in k x payload low fits
 learned-is misses k x payload low fits j at = word-learned cancelled_in k x payload low fits
+learned-is sees k x payload low fits j at = word-learned taken_in k x payload low fits
+learned-is finds k x payload low fits j at = word-learned broken_in k x payload low fits
 
 -- by the number that a pass keeps of its ticket a load tells it what it tells
 pub learns-at : {E S : Type 0} (load : LoadStep) (v : View E S) (word number n : ℕ) → MayLoad load v word
@@ -112,6 +121,8 @@ learns-at cancels v word number n may has = refl
 learns-at meets v word number n may has =
     ap (λ k. learns meets k n) (has may.0 may.2 ∙ sym (ap number_at may.2))
 learns-at misses v word number n may has = refl
+learns-at sees v word number n may has = refl
+learns-at finds v word number n may has = refl
 
 -- The step of the queue that a load shows: it loads the cell at which its pass works, found in this state.
 record ShowsStep (load : LoadStep) (x : CoreState) (s : QueueStep) : Type 0 where
@@ -169,6 +180,26 @@ quiet misses state.Cancelling e = refl
 quiet misses state.Delegated e = refl
 quiet misses state.Cancelled e = absurd (cc)
 quiet misses state.Refused e = refl
+quiet sees state.Empty e = refl
+quiet sees state.Waiter e = refl
+quiet sees state.Value e = refl
+quiet sees state.Taken e = absurd (cc)
+quiet sees state.Broken e = refl
+quiet sees state.Resumed e = refl
+quiet sees state.Cancelling e = refl
+quiet sees state.Delegated e = refl
+quiet sees state.Cancelled e = refl
+quiet sees state.Refused e = refl
+quiet finds state.Empty e = refl
+quiet finds state.Waiter e = refl
+quiet finds state.Value e = refl
+quiet finds state.Taken e = refl
+quiet finds state.Broken e = absurd (cc)
+quiet finds state.Resumed e = refl
+quiet finds state.Cancelling e = refl
+quiet finds state.Delegated e = refl
+quiet finds state.Cancelled e = refl
+quiet finds state.Refused e = refl
 
 kept : (gains : ℕ → ℕ) (k n : ℕ) (f : Facts) → CarriesLearned gains Nothing f (facts_watched k n f)
 kept gains k n f = record {
@@ -191,6 +222,8 @@ polls-waiter = record {
     brings = false;
     wait = wait_stays;
     gain = nothing;
+    collects = false;
+    settles = false;
   };
   is = refl;
   loads = refl;
@@ -218,6 +251,8 @@ polls-resumed = record {
     brings = false;
     wait = wait_closes;
     gain = its_own;
+    collects = true;
+    settles = true;
   };
   is = refl;
   loads = refl;
@@ -245,6 +280,8 @@ cancels-resumed = record {
     brings = false;
     wait = wait_closes;
     gain = its_own;
+    collects = true;
+    settles = true;
   };
   is = refl;
   loads = refl;
@@ -272,6 +309,8 @@ meets-cancelled = record {
     brings = false;
     wait = wait_stays;
     gain = nothing;
+    collects = false;
+    settles = false;
   };
   is = refl;
   loads = refl;
@@ -299,6 +338,8 @@ meets-refused = record {
     brings = false;
     wait = wait_stays;
     gain = nothing;
+    collects = false;
+    settles = true;
   };
   is = refl;
   loads = refl;
@@ -326,6 +367,95 @@ misses-cancelled = record {
     brings = false;
     wait = wait_stays;
     gain = nothing;
+    collects = false;
+    settles = true;
+  };
+  is = refl;
+  loads = refl;
+  finds = refl;
+  at = refl;
+  suits = λ m fit. fit;
+  carries = λ gains k n payload f does once own. record {
+    held = refl;
+    owes = refl;
+    waits = omega arith;
+    further = refl;
+    spares = refl;
+    open_slot = refl;
+    ticket = λ j e. absurd (cc);
+  };
+}
+
+sees-value : ShowsStep sees state.Value (in_sync sees_value)
+sees-value = record {
+  row = record {
+    works_at = stage.watching;
+    goes_to = stage.watching;
+    finds = state.Value;
+    makes = None;
+    brings = false;
+    wait = wait_stays;
+    gain = nothing;
+    collects = false;
+    settles = false;
+  };
+  is = refl;
+  loads = refl;
+  finds = refl;
+  at = refl;
+  suits = λ m fit. fit;
+  carries = λ gains k n payload f does once own. record {
+    held = refl;
+    owes = ap is_owing (sym does);
+    waits = omega arith;
+    further = refl;
+    spares = refl;
+    open_slot = refl;
+    ticket = λ j e. absurd (cc);
+  };
+}
+
+sees-taken : ShowsStep sees state.Taken (in_sync sees_taken)
+sees-taken = record {
+  row = record {
+    works_at = stage.watching;
+    goes_to = stage.idle;
+    finds = state.Taken;
+    makes = None;
+    brings = false;
+    wait = wait_stays;
+    gain = nothing;
+    collects = false;
+    settles = true;
+  };
+  is = refl;
+  loads = refl;
+  finds = refl;
+  at = refl;
+  suits = λ m fit. fit;
+  carries = λ gains k n payload f does once own. record {
+    held = refl;
+    owes = refl;
+    waits = omega arith;
+    further = refl;
+    spares = refl;
+    open_slot = refl;
+    ticket = λ j e. absurd (cc);
+  };
+}
+
+finds-broken : ShowsStep finds state.Broken (in_sync finds_broken)
+finds-broken = record {
+  row = record {
+    works_at = stage.drawn;
+    goes_to = stage.idle;
+    finds = state.Broken;
+    makes = None;
+    brings = false;
+    wait = wait_stays;
+    gain = nothing;
+    collects = true;
+    settles = true;
   };
   is = refl;
   loads = refl;
@@ -390,6 +520,27 @@ shows-step misses state.Delegated s e = absurd (cc)
 shows-step misses state.Cancelled s e = subst (ShowsStep misses state.Cancelled)
     (same_Some ends_missed s e) misses-cancelled
 shows-step misses state.Refused s e = absurd (cc)
+shows-step sees state.Empty s e = absurd (cc)
+shows-step sees state.Waiter s e = absurd (cc)
+shows-step sees state.Value s e = subst (ShowsStep sees state.Value) (same_Some (in_sync sees_value) s e) sees-value
+shows-step sees state.Taken s e = subst (ShowsStep sees state.Taken) (same_Some (in_sync sees_taken) s e) sees-taken
+shows-step sees state.Broken s e = absurd (cc)
+shows-step sees state.Resumed s e = absurd (cc)
+shows-step sees state.Cancelling s e = absurd (cc)
+shows-step sees state.Delegated s e = absurd (cc)
+shows-step sees state.Cancelled s e = absurd (cc)
+shows-step sees state.Refused s e = absurd (cc)
+shows-step finds state.Empty s e = absurd (cc)
+shows-step finds state.Waiter s e = absurd (cc)
+shows-step finds state.Value s e = absurd (cc)
+shows-step finds state.Taken s e = absurd (cc)
+shows-step finds state.Broken s e = subst (ShowsStep finds state.Broken)
+    (same_Some (in_sync finds_broken) s e) finds-broken
+shows-step finds state.Resumed s e = absurd (cc)
+shows-step finds state.Cancelling s e = absurd (cc)
+shows-step finds state.Delegated s e = absurd (cc)
+shows-step finds state.Cancelled s e = absurd (cc)
+shows-step finds state.Refused s e = absurd (cc)
 
 -- the load is one at which the pass works
 abbrev IsWork : LoadStep → Type 0
@@ -399,28 +550,42 @@ IsWork polls = Unit {0}
 IsWork cancels = Unit {0}
 IsWork meets = Unit {0}
 IsWork misses = Unit {0}
+IsWork sees = Unit {0}
+IsWork finds = Unit {0}
 
 -- a pass that may load so works at the cell, and may find it in these states
 record Working {E S : Type 0} (load : LoadStep) (v : View E S) (k : ℕ) : Type 0 where
   does : v.facts.doing ≡ doing_at (stage_of load) k
   own : IsOwnWait (stage_of load) k v.facts
   at : IsAtCell (stage_of load)
-  stand : (x : CoreState) → MayFind (stage_of load) x → MayStand load x
+  stand : (sync : Bool) (x : CoreState) → MayFind sync (stage_of load) x → MayStand sync load x
 
 working : {E S : Type 0} (load : LoadStep) (v : View E S) (k : ℕ) → IsWork load → MayLook load v k → Working load v k
 working counts v k is may = absurd is
 working watches v k is may = absurd is
-working polls v k is may = record { does = may.0; own = may.1; at = tt; stand = λ x m. m }
-working cancels v k is may = record { does = may.0; own = may.1; at = tt; stand = λ x m. m }
-working meets v k is may = record { does = may; own = tt; at = tt; stand = λ x m. m }
-working misses v k is may = record { does = may; own = tt; at = tt; stand = λ x m. m }
+working polls v k is may = record { does = may.0; own = may.1; at = tt; stand = λ b x m. m }
+working cancels v k is may = record { does = may.0; own = may.1; at = tt; stand = λ b x m. m }
+working meets v k is may = record { does = may; own = tt; at = tt; stand = λ b x m. m }
+working misses v k is may = record { does = may; own = tt; at = tt; stand = λ b x m. m }
+working sees v k is may = record { does = may; own = tt; at = tt; stand = λ b x m. m }
+working finds v k is may = record { does = may; own = tt; at = tt; stand = λ b x m. m }
+
+-- no suspend finds its cell cancelled
+unmet-cancelled : (sync : Bool) → MayMeet sync state.Cancelled → ⊥
+unmet-cancelled true may = may
+unmet-cancelled false may = may
+
+-- nor that its wait was served
+unserved : (sync : Bool) → MayMeet sync state.Resumed → ⊥
+unserved true may = may
+unserved false may = may
 
 module _ {E S : Type 0} (object : Object E) (primitive : Primitive E S) (passes limit : ℕ)
     (client : IsClient object primitive) where
   -- a load of this row leaves the words, which show the cells as the step leaves them
   pub cells-loaded : (s : State (Option S) (View E S)) (r : Ruled object primitive passes limit s)
       (p k word payload : ℕ) (row : CellRow) (found : CoreCell) (has : OwnHas) (is : IsCellRow row)
-      (sound : IsSound r.hidden.queue)
+      (sound : IsSoundEither primitive.manner.watches r.hidden.queue)
       (opens : IsOpenRow r.hidden.queue (at_cell row) p k (Some found)) → row.makes ≡ None
       → CellsShow r.segments (happened_by object.gains r.hidden (at_cell row) p k (Some found) has payload)
       r.slots (slice_set s.words word (slice_index s.words word))
@@ -517,13 +682,13 @@ module _ {E S : Type 0} (object : Object E) (primitive : Primitive E S) (passes 
       at : Stands c v.number f
       at = known.stands
 
-      sound : IsSound c.queue
+      sound : IsSoundEither primitive.manner.watches c.queue
       sound = client.sound c (client_words s.words) r.log r.handed r.shown
 
       job : Working load v k
       job = working load v k is may
 
-      stood : WorksAt c (cell_count passes limit primitive.values) v.number k (stage_of load)
+      stood : WorksAt primitive.manner.watches c (cell_count passes limit primitive.values) v.number k (stage_of load)
       stood = works-at c passes limit primitive.values v.number k
           (stage_of load) f r.room sound at job.does job.own job.at
 
@@ -547,8 +712,13 @@ module _ {E S : Type 0} (object : Object E) (primitive : Primitive E S) (passes 
         bare = r.cells.bare k;
       }
 
-      stand : MayStand load x
-      stand = job.stand x (subst (MayFind (stage_of load)) (ap state_in (sym stood.there)) stood.may)
+      may-here : MayFind v.opening.sync (stage_of load) x
+      may-here = subst (λ b. MayFind b (stage_of load) x)
+          (sym (ap (λ (o : Opening). o.sync) known.opening_is ∙ client.sync))
+          (subst (MayFind primitive.manner.watches (stage_of load)) (ap state_in (sym stood.there)) stood.may)
+
+      stand : MayStand v.opening.sync load x
+      stand = job.stand v.opening.sync x may-here
 
       number-is : (l : LoadStep) → IsTicketLoad l → MayLook l v k → number_at f.doing ≡ k
       number-is counts t m = absurd t
@@ -557,22 +727,25 @@ module _ {E S : Type 0} (object : Object E) (primitive : Primitive E S) (passes 
       number-is cancels t m = absurd t
       number-is meets t m = ap number_at m
       number-is misses t m = ap number_at m
+      number-is sees t m = absurd t
+      number-is finds t m = absurd t
 
-      may-here : MayFind (stage_of load) x
-      may-here = subst (MayFind (stage_of load)) (ap state_in (sym stood.there)) stood.may
-
-      gone : (l : LoadStep) → IsWork l → MayFind (stage_of l) x → LoadSuits primitive.manner l → MayLook l v k
+      gone : (l : LoadStep) → IsWork l → MayFind v.opening.sync (stage_of l) x → LoadSuits primitive.manner l
+          → MayLook l v k
           → x ≡ state.Cancelled → IsSmart primitive.manner.leaving → k < index_in n
           → learns l (number_at f.doing) n ≡ learned_at l x
       gone counts w m u a e q z = refl
       gone watches w m u a e q z = refl
-      gone polls w m u a e q z = absurd (subst (MayFind stage.idle) e m)
-      gone cancels w m u a e q z = absurd (subst (MayFind stage.idle) e m)
+      gone polls w m u a e q z = absurd (subst (MayFind v.opening.sync stage.idle) e m)
+      gone cancels w m u a e q z = absurd (subst (MayFind v.opening.sync stage.idle) e m)
       gone meets w m u a e q z =
           ap (λ b. if b then learned_of refused_in (unpacked_cell n) else Nothing)
           (ne_eqb (index_in n) (number_at f.doing) (λ same. let d = ap number_at a in omega arith))
           ∙ ap (λ y. refused_in (shown_state y)) (sym e)
       gone misses w m u a e q z = absurd (smart-once primitive.manner.leaving q u)
+      gone sees w m u a e q z = absurd (subst (MayFind v.opening.sync stage.watching) e m)
+      gone finds w m u a e q z =
+          absurd (unmet-cancelled v.opening.sync (subst (MayFind v.opening.sync stage.drawn) e m))
 
       tells : learns load (number_at f.doing) n ≡ learned_at load x
       tells = ⊎_elim
@@ -581,14 +754,16 @@ module _ {E S : Type 0} (object : Object E) (primitive : Primitive E S) (passes 
           (λ t. gone load is may-here suits may t.0 t.1 t.2)
           seen
 
-      wait-of : (l : LoadStep) → IsWork l → MayFind (stage_of l) x → MayLook l v k → x ≡ state.Resumed
+      wait-of : (l : LoadStep) → IsWork l → MayFind v.opening.sync (stage_of l) x → MayLook l v k → x ≡ state.Resumed
           → IsWaitOf c.queue v.number k
       wait-of counts w m a e = absurd w
       wait-of watches w m a e = absurd w
       wait-of polls w m a e = at.waits k a.1
       wait-of cancels w m a e = at.waits k a.1
-      wait-of meets w m a e = absurd (subst (MayFind stage.ticket) e m)
-      wait-of misses w m a e = absurd (subst (MayFind stage.ticket) e m)
+      wait-of meets w m a e = absurd (subst (MayFind v.opening.sync stage.ticket) e m)
+      wait-of misses w m a e = absurd (subst (MayFind v.opening.sync stage.ticket) e m)
+      wait-of sees w m a e = absurd (subst (MayFind v.opening.sync stage.watching) e m)
+      wait-of finds w m a e = absurd (unserved v.opening.sync (subst (MayFind v.opening.sync stage.drawn) e m))
 
       by : (o : Option QueueStep) → event_of load x ≡ o → Learns all load s id me k word
       by None e =
@@ -757,6 +932,8 @@ module _ {E S : Type 0} (object : Object E) (primitive : Primitive E S) (passes 
   one-load cancels s r id v k j word here on is a b may too = same-wait s r id v k j word here on a b may.1 too.1
   one-load meets s r id v k j word here on is a b may too = ap number_at (sym may ∙ too)
   one-load misses s r id v k j word here on is a b may too = ap number_at (sym may ∙ too)
+  one-load sees s r id v k j word here on is a b may too = ap number_at (sym may ∙ too)
+  one-load finds s r id v k j word here on is a b may too = ap number_at (sym may ∙ too)
 
   -- the load of a cell that the pass knows to stand at the word, whichever it is
   any-cell : {C : Type 0} (all : C → Primitive E S) (load : LoadStep) (s : State (Option S) (View E S))
@@ -835,6 +1012,34 @@ module _ {E S : Type 0} (object : Object E) (primitive : Primitive E S) (passes 
           t.4.4,
         ),
       )
+  loads all y all_is slots id me sees word one suits may s r _ here small =
+      let t = learns-so all y all_is sees s r id me may.0 word here one suits tt may.2 may.1 in (
+        t.0,
+        t.1,
+        t.2,
+        t.3,
+        (
+          any-cell all sees s r id me may.0 word here (omega arith) tt may.1 may.2 t.0 t.4.0,
+          t.4.1,
+          t.4.2,
+          t.4.3,
+          t.4.4,
+        ),
+      )
+  loads all y all_is slots id me finds word one suits may s r _ here small =
+      let t = learns-so all y all_is finds s r id me may.0 word here one suits tt may.2 may.1 in (
+        t.0,
+        t.1,
+        t.2,
+        t.3,
+        (
+          any-cell all finds s r id me may.0 word here (omega arith) tt may.1 may.2 t.0 t.4.0,
+          t.4.1,
+          t.4.2,
+          t.4.3,
+          t.4.4,
+        ),
+      )
 
 -- the word of a load is one of the table's
 pub load-low : {E S : Type 0} (v : View E S) (word : ℕ) (load : LoadStep) → IsInside v → MayLoad load v word
@@ -845,3 +1050,5 @@ load-low v word polls inside may = place-low v may.0 word may.1
 load-low v word cancels inside may = place-low v may.0 word may.1
 load-low v word meets inside may = place-low v may.0 word may.1
 load-low v word misses inside may = place-low v may.0 word may.1
+load-low v word sees inside may = place-low v may.0 word may.1
+load-low v word finds inside may = place-low v may.0 word may.1

@@ -14,18 +14,20 @@ use Rattle.cqs_core.specs.declared.cells.CoreCell.{CoreCell}
 use Rattle.cqs_core.specs.declared.cells.CoreState.{CoreState}
 use Rattle.cqs_core.specs.declared.cells.CoreState.TheVariants as state
 use Rattle.cqs_core.specs.declared.doings.Doing.TheVariants as doing
-use Rattle.cqs_core.specs.QueueSound.{IsSound}
+use Rattle.cqs_core.specs.QueueEither.{IsSoundEither}
+use Rattle.cqs_core.proofs.EitherCells.{has-cell, turns}
 use Rattle.cqs_core.specs.QueueStages as stage
 use Rattle.cqs_core.specs.QueueStages.{Stage, doing_at, MayFind, MayWork}
 use Rattle.cqs_core.specs.QueueSteps.{QueueStep, row_of, StepRow, CellRow, at_counter, at_cell, Gain, nothing, its_own, a_debt, payload_told, state_made, IsOpenRow, cell_after, WaitChange, wait_stays, wait_opens, wait_closes}
 use Rattle.cqs_core.proofs.Places.{get-set_here}
 use Rattle.cqs_core.proofs.QueueRows.{rows, row-of}
 use Rattle.cqs_core.specs.QueueCells.{rank}
-use Rattle.cqs_core.proofs.QueueUniform.{IsCellRow, IsRow, IsAtCell, IsInside, has-cell, turns, TellsWait, IsOwnChange, GoesOn as RowGoesOn}
+use Rattle.cqs_core.proofs.QueueUniform.{IsCellRow, IsRow, IsAtCell, IsInside, TellsWait, IsOwnChange, GoesOn as RowGoesOn}
 use Rattle.cqs_words.specs.Cell.{index_in}
 use Rattle.cqs_rule_laws.specs.declared.view.View.{View}
 use Rattle.cqs_rule_laws.specs.declared.view.Facts.{Facts}
 use Rattle.cqs_rule_laws.specs.declared.view.Glimpse.{Glimpse}
+use Rattle.cqs_rule_laws.specs.declared.view.Opening.{Opening}
 use Rattle.cqs_rule_laws.specs.Client.{IsClient, IsPayload, KeepsSlot}
 use Rattle.cqs_rule_laws.specs.Drawn.{TellsCome}
 use Rattle.cqs_rule_laws.specs.Exchanges.{IsOwnWait, payload_left, Exchanges, MayExchange, IsCrossing, FoundCell, SinceLast, HasCell, Crossed, CrossedBy, crossed}
@@ -59,9 +61,9 @@ use Rattle.cqs_slots.proofs.Loads.{later-same}
 use Rattle.cqs_rule_laws.proofs.Tells.{Steps, steps, inside-of, suspends-low, resumes-low}
 use Rattle.cqs_rule_laws.proofs.Words.{crew-else, counters-else, idle-else, client-above}
 use Rattle.cqs_rule_laws.proofs.Duties.{counts-then}
-use Rattle.cqs_rule_laws.proofs.Settled.{rank-most, NoTicket, no-ticket-after, Settled, final-after, finals-on}
+use Rattle.cqs_rule_laws.proofs.Settled.{rank-most, NoTicket, no-ticket-after, KeepsAway, keeps-away, Settled, final-after, finals-on}
 use Rattle.cqs_rule_laws.proofs.Over.{over-settled}
-use Rattle.cqs_rule_laws.proofs.Outs.{untaken, cancelling}
+use Rattle.cqs_rule_laws.proofs.Outs.{cancelling}
 use Rattle.cqs_rule_laws.proofs.Stale.{found-there, stale-fails, false-or-true}
 use Rattle.cqs_rule_laws.proofs.Staying.{OthersStay}
 use Rattle.cqs_rule_laws.proofs.Worked.{states-final, waits-final, state-else, payload-else, payload-here, state-here, bare-here, left-fits, others-worked, worked-self, gained-fits}
@@ -73,35 +75,37 @@ no-door stage.door k i e = i
 no-door stage.owes k i e = absurd (cc)
 no-door stage.drawn k i e = absurd (cc)
 no-door stage.ticket k i e = absurd (cc)
+no-door stage.watching k i e = absurd (cc)
 no-door stage.leaving k i e = absurd (cc)
 no-door (stage.decided on) k i e = absurd (cc)
 
 -- The cell at which the pass p works so at the number k: it is there, and k is the number of a cell.
-pub record WorksAt (c : Hidden) (cells p k : ℕ) (at : Stage) : Type 0 where
+pub record WorksAt (sync : Bool) (c : Hidden) (cells p k : ℕ) (at : Stage) : Type 0 where
   pub cell : CoreCell
   pub there : slice_get c.queue.cells k ≡ Some cell
-  pub may : MayFind at cell.state
+  pub may : MayFind sync at cell.state
   pub works : MayWork at p cell
   pub below : k < cells
 
-pub works-at : (c : Hidden) (passes limit values p k : ℕ) (at : Stage) (f : Facts) → HasRoom passes limit values c
-    → IsSound c.queue
+pub works-at : {sync : Bool} (c : Hidden) (passes limit values p k : ℕ) (at : Stage) (f : Facts)
+    → HasRoom passes limit values c
+    → IsSoundEither sync c.queue
     → Stands c p f → f.doing ≡ doing_at at k → IsOwnWait at k f → IsAtCell at
-    → WorksAt c (cell_count passes limit values) p k at
-works-at c passes limit values p k stage.idle f room sound is does own at =
+    → WorksAt sync c (cell_count passes limit values) p k at
+works-at {sync} c passes limit values p k stage.idle f room sound is does own at =
     let w = is.waits k own in record {
       cell = w.cell;
       there = w.there;
-      may = idle-stands c.queue p k w.cell w.cell.state (sound.cells.at k w.cell w.there) w.installed w.owner
+      may = idle-stands c.queue sound p k w.cell w.cell.state w.there refl w.installed w.owner
           (is.doing ∙ ap Some does);
       works = record { owner = w.owner; uncollected = w.uncollected };
       below = let drawn = w.drawn in let g = room.ground in omega arith;
     }
-works-at c passes limit values p k stage.door f room sound is does own at = absurd at
-works-at c passes limit values p k stage.owes f room sound is does own at = absurd at
-works-at c passes limit values p k stage.drawn f room sound is does own at =
+works-at {sync} c passes limit values p k stage.door f room sound is does own at = absurd at
+works-at {sync} c passes limit values p k stage.owes f room sound is does own at = absurd at
+works-at {sync} c passes limit values p k stage.drawn f room sound is does own at =
     let d : slice_get c.queue.doing p ≡ Some (doing.Drawn k) = is.doing ∙ ap Some does in
-    let h = has-cell c.queue p stage.drawn k sound d tt in
+    let h = has-cell sync c.queue sound p stage.drawn k d tt in
     record {
       cell = h.cell;
       there = h.there;
@@ -109,9 +113,9 @@ works-at c passes limit values p k stage.drawn f room sound is does own at =
       works = tt;
       below = inside-of passes limit values c p (doing.Drawn k) room sound d;
     }
-works-at c passes limit values p k stage.ticket f room sound is does own at =
+works-at {sync} c passes limit values p k stage.ticket f room sound is does own at =
     let d : slice_get c.queue.doing p ≡ Some (doing.Ticket k) = is.doing ∙ ap Some does in
-    let h = has-cell c.queue p stage.ticket k sound d tt in
+    let h = has-cell sync c.queue sound p stage.ticket k d tt in
     record {
       cell = h.cell;
       there = h.there;
@@ -119,9 +123,19 @@ works-at c passes limit values p k stage.ticket f room sound is does own at =
       works = tt;
       below = inside-of passes limit values c p (doing.Ticket k) room sound d;
     }
-works-at c passes limit values p k stage.leaving f room sound is does own at =
+works-at {sync} c passes limit values p k stage.watching f room sound is does own at =
+    let d : slice_get c.queue.doing p ≡ Some (doing.Watching k) = is.doing ∙ ap Some does in
+    let h = has-cell sync c.queue sound p stage.watching k d tt in
+    record {
+      cell = h.cell;
+      there = h.there;
+      may = h.may;
+      works = tt;
+      below = inside-of passes limit values c p (doing.Watching k) room sound d;
+    }
+works-at {sync} c passes limit values p k stage.leaving f room sound is does own at =
     let d : slice_get c.queue.doing p ≡ Some (doing.Leaving k) = is.doing ∙ ap Some does in
-    let h = has-cell c.queue p stage.leaving k sound d tt in
+    let h = has-cell sync c.queue sound p stage.leaving k d tt in
     record {
       cell = h.cell;
       there = h.there;
@@ -129,9 +143,9 @@ works-at c passes limit values p k stage.leaving f room sound is does own at =
       works = tt;
       below = inside-of passes limit values c p (doing.Leaving k) room sound d;
     }
-works-at c passes limit values p k (stage.decided on) f room sound is does own at =
+works-at {sync} c passes limit values p k (stage.decided on) f room sound is does own at =
     let d : slice_get c.queue.doing p ≡ Some (doing.Decided k on) = is.doing ∙ ap Some does in
-    let h = has-cell c.queue p (stage.decided on) k sound d tt in
+    let h = has-cell sync c.queue sound p (stage.decided on) k d tt in
     record {
       cell = h.cell;
       there = h.there;
@@ -173,15 +187,17 @@ stage-owes stage.door k = refl
 stage-owes stage.owes k = refl
 stage-owes stage.drawn k = refl
 stage-owes stage.ticket k = refl
+stage-owes stage.watching k = refl
 stage-owes stage.leaving k = refl
 stage-owes (stage.decided on) k = refl
 
 -- the wait that a step closes is one of the pass's
-pub closes-own : (c : Hidden) (p k : ℕ) (row : CellRow) (found : CoreCell) (f : Facts) → IsCellRow row → IsSound c.queue
+pub closes-own : {sync : Bool} (c : Hidden) (p k : ℕ) (row : CellRow) (found : CoreCell) (f : Facts) → IsCellRow row
+    → IsSoundEither sync c.queue
     → Stands c p f
     → IsOpenRow c.queue (at_cell row) p k (Some found) → row.wait ≡ wait_closes → lists.Has k f.waits
-closes-own c p k row found f is sound at opens closing =
-    let turn = turns c.queue p k row found is sound opens in
+closes-own {sync} c p k row found f is sound at opens closing =
+    let turn = turns sync c.queue sound p k row found is opens in
     let own : IsOwnChange wait_closes row.works_at = subst (λ z. IsOwnChange z row.works_at) closing is.own_change in
     let tells : TellsWait wait_closes found (cell_after row found) =
     subst (λ z. TellsWait z found (cell_after row found)) closing turn.wait in
@@ -189,7 +205,7 @@ closes-own c p k row found f is sound at opens closing =
       cell = found;
       there = opens.0.finds;
       owner = turn.owner own;
-      drawn = installed-drawn c.queue k found found.state (sound.cells.at k found opens.0.finds) tells.0.installed;
+      drawn = installed-drawn c.queue sound k found found.state opens.0.finds refl tells.0.installed;
       uncollected = tells.0.uncollected;
       installed = tells.0.installed;
     })
@@ -218,8 +234,10 @@ module _ {E S : Type 0} (object : Object E) (primitive : Primitive E S) (passes 
   -- cancelled
   -- and its segment gone
   pub seen-word : (s : State (Option S) (View E S)) (r : Ruled object primitive passes limit s) (id : ℕ) (v : View E S)
-      (k word : ℕ) (at : Stage) → get_elem? s.views id ≡ some v → IsAtCell at → IsSound r.hidden.queue
-      → WorksAt r.hidden (cell_count passes limit primitive.values) v.number k at → Stands r.hidden v.number v.facts
+      (k word : ℕ) (at : Stage) → get_elem? s.views id ≡ some v → IsAtCell at
+      → IsSoundEither primitive.manner.watches r.hidden.queue
+      → WorksAt primitive.manner.watches r.hidden (cell_count passes limit primitive.values) v.number k at
+      → Stands r.hidden v.number v.facts
       → v.facts.doing ≡ doing_at at k → IsOwnWait at k v.facts → KnowsPlace v (place_at word k)
       → (slice_index s.words word ≡ word_at r.hidden k)
       ⊎ ((state_at r.hidden.queue k ≡ state.Cancelled) × IsSmart primitive.manner.leaving
@@ -244,19 +262,21 @@ module _ {E S : Type 0} (object : Object E) (primitive : Primitive E S) (passes 
       rank-is f = sym (ap rank (ap state_in stood.there)) ∙ f.final
 
       ticket : (a : Stage) → IsFinal (IsSmart primitive.manner.leaving) r.hidden.queue k → IsAtCell a
-          → MayFind a stood.cell.state → v.facts.doing ≡ doing_at a k → IsOwnWait a k v.facts
+          → MayFind primitive.manner.watches a stood.cell.state → v.facts.doing ≡ doing_at a k → IsOwnWait a k v.facts
           → (state_at r.hidden.queue k ≡ state.Cancelled) × IsSmart primitive.manner.leaving
       ticket stage.idle f i m d o = absurd (f.unwaited v.number (stands.waits k o))
       ticket stage.door f i m d o = absurd i
       ticket stage.owes f i m d o = absurd i
-      ticket stage.drawn f i m d o = absurd (untaken stood.cell.state m (rank-is f))
+      ticket stage.drawn f i m d o = absurd (f.come v.number (stands.doing ∙ ap Some d))
+      ticket stage.watching f i m d o = absurd (f.unwatched v.number (stands.doing ∙ ap Some d))
       ticket stage.ticket f i m d o = f.met v.number (stands.doing ∙ ap Some d)
       ticket stage.leaving f i m d o = absurd (cancelling stood.cell.state m (rank-is f))
       ticket (stage.decided on) f i m d o = absurd (cancelling stood.cell.state m (rank-is f))
 
   -- what such a step leaves of the cells, where its own stands at the word, and is written as the row says
   cells-worked : (s : State (Option S) (View E S)) (r : Ruled object primitive passes limit s) (p k word x payload : ℕ)
-      (row : CellRow) (found : CoreCell) (has : Has) (is : IsCellRow row) (sound : IsSound r.hidden.queue)
+      (row : CellRow) (found : CoreCell) (has : Has) (is : IsCellRow row)
+      (sound : IsSoundEither primitive.manner.watches r.hidden.queue)
       (opens : IsOpenRow r.hidden.queue (at_cell row) p k (Some found)) → payload < 2 ^ 20
       → CellAt r.segments r.hidden s.words k word
       → x ≡ word_of k
@@ -276,7 +296,8 @@ module _ {E S : Type 0} (object : Object E) (primitive : Primitive E S) (passes 
 
   -- what is settled after a step of this row at the number k is final
   works-finals : (c : Hidden) (settled : ℕ → Bool) (st : QueueStep) (row : CellRow) (p k payload : ℕ) (found : CoreCell)
-      (has : Has) (f g : Facts) (is : row_of st ≡ at_cell row) (row_is : IsCellRow row) (sound : IsSound c.queue)
+      (has : Has) (f g : Facts) (is : row_of st ≡ at_cell row) (row_is : IsCellRow row)
+      (sound : IsSoundEither primitive.manner.watches c.queue)
       (opens : IsOpenRow c.queue (at_cell row) p k (Some found)) → Suits primitive.manner st
       → OthersStay c (happened_by object.gains c (at_cell row) p k (Some found) has payload) p → Stands c p f
       → Stands (happened_by object.gains c (at_cell row) p k (Some found) has payload) p g
@@ -291,6 +312,17 @@ module _ {E S : Type 0} (object : Object E) (primitive : Primitive E S) (passes 
       d : Hidden
       d = happened_by object.gains c (at_cell row) p k (Some found) has payload
 
+      away : KeepsAway (at_cell row)
+      away = subst (λ (z : StepRow). KeepsAway z) is (keeps-away st)
+
+      -- what the pass watches then it watched before, or the cell wasn't final
+      watched : (j : ℕ) → (j ≡ k) × ((doing_at row.works_at k ≡ doing.Watching k) ⊎ (rank row.finds < 4))
+          → (f.doing ≡ doing.Watching j) ⊎ (rank (state_at c.queue j) < 4)
+      watched j (same, inl was) = inl (same_Some f.doing (doing.Watching j)
+          (sym before.doing ∙ (opens.0.does ∙ ap Some (was ∙ ap doing.Watching (sym same)))))
+      watched j (same, inr low) = inr (subst (λ z. rank z < 4)
+          (sym (ap (state_at c.queue) same ∙ (ap state_in opens.0.finds ∙ opens.0.at))) low)
+
       stay : (j : ℕ) → settled j ≡ true → IsFinal (IsSmart primitive.manner.leaving)
           (happened_by object.gains c (at_cell row) p k (Some found) has payload).queue j
       stay = finals-on (IsSmart primitive.manner.leaving) c
@@ -299,7 +331,9 @@ module _ {E S : Type 0} (object : Object E) (primitive : Primitive E S) (passes 
           (λ j high h. waits-final object.gains c p k row found has payload row_is sound opens f j high
           (subst (lists.Has j) waits h))
           (λ j q. absurd (subst (λ (z : StepRow). NoTicket z) is (no-ticket-after st) k j (sym goes ∙ q)))
-          (omega arith) old
+          (λ j q. absurd (away.0 k j (sym goes ∙ q)))
+          (λ j q. watched j (away.1 k j (sym goes ∙ q)))
+          (omega arith) (omega arith) old
 
       by : (b : Bool) → settles_row row ≡ b → (j : ℕ) → settled_then b settled k j ≡ true
           → IsFinal (IsSmart primitive.manner.leaving)
@@ -333,7 +367,8 @@ module _ {E S : Type 0} (object : Object E) (primitive : Primitive E S) (passes 
       let n = slice_index s.words word in
       let cells = cell_count passes limit primitive.values in
       let row_is : IsCellRow row = row-of st row is in
-      let sound : IsSound c.queue = client.sound c (client_words s.words) r.log r.handed r.shown in
+      let sound : IsSoundEither primitive.manner.watches c.queue =
+      client.sound c (client_words s.words) r.log r.handed r.shown in
       let d = happened_by object.gains c (at_cell row) p k (Some found) f.has payload in
       let es = object.entries st p k payload in
       let fits : payload < 2 ^ 20 = subst (λ z. z < 2 ^ 20) (sym told)
@@ -348,7 +383,8 @@ module _ {E S : Type 0} (object : Object E) (primitive : Primitive E S) (passes 
       let now : primitive.shows d (client_words s.words) (r.log ++ es) r.handed =
       subst (λ z. primitive.shows (happened_by object.gains c z p k (Some found) f.has payload) (client_words s.words)
       (r.log ++ es) r.handed) is by in
-      let safe : IsSound d.queue = client.sound d (client_words s.words) (r.log ++ es) r.handed now in
+      let safe : IsSoundEither primitive.manner.watches d.queue =
+      client.sound d (client_words s.words) (r.log ++ es) r.handed now in
       let others = others-worked object.gains c p k row found f.has payload row_is sound opens safe in
       let turned : Turned object primitive passes limit s r v word x d es
       (facts_worked object.gains row k n payload f) = record {
@@ -529,10 +565,10 @@ module _ {E S : Type 0} (object : Object E) (primitive : Primitive E S) (passes 
       row_is : IsCellRow row
       row_is = row-of st row is
 
-      sound : IsSound c.queue
+      sound : IsSoundEither primitive.manner.watches c.queue
       sound = client.sound c (client_words s.words) r.log r.handed r.shown
 
-      stood : WorksAt c (cell_count passes limit primitive.values) p k row.works_at
+      stood : WorksAt primitive.manner.watches c (cell_count passes limit primitive.values) p k row.works_at
       stood = works-at c passes limit primitive.values p k row.works_at f r.room sound at x.works x.own row_is.at
 
       g : Glimpse
@@ -551,8 +587,10 @@ module _ {E S : Type 0} (object : Object E) (primitive : Primitive E S) (passes 
         bare = r.cells.bare k;
       }
 
-      may : MayFind row.works_at g.state
-      may = subst (MayFind row.works_at) (ap state_in (sym stood.there)) stood.may
+      may : MayFind v.opening.sync row.works_at g.state
+      may = subst (λ b. MayFind b row.works_at g.state)
+          (sym (ap (λ (o : Opening). o.sync) known.opening_is ∙ client.sync))
+          (subst (MayFind primitive.manner.watches row.works_at) (ap state_in (sym stood.there)) stood.may)
 
       since : SinceLast g f.last
       since = since-last c k f.last at.last
@@ -595,6 +633,7 @@ crossing-low {E} {S} st v word expected new inside x = by (row_of st) (rows st) 
     number stage.owes k at does own = absurd at
     number stage.drawn k at does own = subst (λ d. number_at d < v.cells) does inside.number
     number stage.ticket k at does own = subst (λ d. number_at d < v.cells) does inside.number
+    number stage.watching k at does own = subst (λ d. number_at d < v.cells) does inside.number
     number stage.leaving k at does own = subst (λ d. number_at d < v.cells) does inside.number
     number (stage.decided on) k at does own = subst (λ d. number_at d < v.cells) does inside.number
 

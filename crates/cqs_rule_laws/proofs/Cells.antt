@@ -10,7 +10,11 @@ use Rattle.cqs_core.specs.declared.cells.CoreState.TheVariants as state
 use Rattle.cqs_core.specs.declared.doings.Doing.TheVariants as doing
 use Rattle.cqs_core.specs.QueueCells.{rank, IsInstalled, IsStanding}
 use Rattle.cqs_core.specs.QueueState.{Queue, owner_doing}
-use Rattle.cqs_core.specs.QueueSound.{IsSoundAt, IsLeft}
+use Rattle.cqs_core.specs.QueueAsUnbroken.{as_unbroken, unbroken_cell}
+use Rattle.cqs_core.specs.QueueEither.{IsSoundEither}
+use Rattle.cqs_core.specs.QueueSound.{IsLeft}
+use Rattle.cqs_core.proofs.EitherCells.{intact-sound}
+use Rattle.cqs_core.proofs.UnbrokenMoves.{does-read}
 use Rattle.cqs_core.proofs.Places.{get-set_here, get-set_else}
 use Rattle.cqs_rule_laws.specs.declared.view.Glimpse.{Glimpse}
 use Rattle.cqs_rule_laws.specs.Hidden.{Hidden, state_in, state_at}
@@ -44,44 +48,53 @@ pushed-back [] new (suc j) x e = absurd (cc)
 pushed-back (y ∷ ys) new zero x e = inl e
 pushed-back (y ∷ ys) new (suc j) x e = pushed-back ys new j x e
 
--- a waiter stands only in the cell of a number that was drawn to suspend at
-pub installed-drawn : (q : Queue) (k : ℕ) (cell : CoreCell) (x : CoreState) → IsSoundAt q k cell x → IsInstalled x
-    → k < q.suspends
-installed-drawn q k cell state.Waiter s i = s.0.drawn
-installed-drawn q k cell state.Resumed s i = s.0.drawn
-installed-drawn q k cell state.Cancelling s i = s.0.entered.drawn
-installed-drawn q k cell state.Delegated s i = s.0.entered.drawn
-installed-drawn q k cell state.Empty s i = absurd i
-installed-drawn q k cell state.Value s i = absurd i
-installed-drawn q k cell state.Taken s i = absurd i
-installed-drawn q k cell state.Broken s i = absurd i
-installed-drawn q k cell state.Cancelled s i = absurd i
-installed-drawn q k cell state.Refused s i = absurd i
+module _ {sync : Bool} (q : Queue) (sound : IsSoundEither sync q) where
+  -- a waiter stands only in the cell of a number that was drawn to suspend at
+  pub installed-drawn : (k : ℕ) (cell : CoreCell) (x : CoreState) → slice_get q.cells k ≡ Some cell → cell.state ≡ x
+      → IsInstalled x → k < q.suspends
+  installed-drawn k cell state.Waiter there at i = (intact-sound sync q sound k cell state.Waiter there at tt).0.drawn
+  installed-drawn k cell state.Resumed there at i = (intact-sound sync q sound k cell state.Resumed there at tt).0.drawn
+  installed-drawn k cell state.Cancelling there at i =
+      (intact-sound sync q sound k cell state.Cancelling there at tt).0.entered.drawn
+  installed-drawn k cell state.Delegated there at i =
+      (intact-sound sync q sound k cell state.Delegated there at tt).0.entered.drawn
+  installed-drawn k cell state.Empty there at i = absurd i
+  installed-drawn k cell state.Value there at i = absurd i
+  installed-drawn k cell state.Taken there at i = absurd i
+  installed-drawn k cell state.Broken there at i = absurd i
+  installed-drawn k cell state.Cancelled there at i = absurd i
+  installed-drawn k cell state.Refused there at i = absurd i
 
-not-leaving : (q : Queue) (p k : ℕ) (cell : CoreCell) → IsLeft q k cell → cell.owner ≡ Some p
-    → slice_get q.doing p ≡ Some doing.Idle → ⊥
-not-leaving q p k cell left owner idle =
-    let does : owner_doing q.doing cell ≡ Some doing.Idle =
-    ap (λ (o : Option ℕ). option_and_then (λ n. slice_get q.doing n) o) owner ∙ idle in
-    ⊎_elim
-    (λ (leaves : owner_doing q.doing cell ≡ Some (doing.Leaving k)). let both = sym does ∙ leaves in absurd (cc))
-    (λ (decided : (on : Bool) × (owner_doing q.doing cell ≡ Some (doing.Decided k on))).
-    let both = sym does ∙ decided.1 in absurd (cc))
-    left.stage
+  not-leaving : (p k : ℕ) (cell : CoreCell) → IsLeft (as_unbroken q) k (unbroken_cell cell) → cell.owner ≡ Some p
+      → slice_get q.doing p ≡ Some doing.Idle → ⊥
+  not-leaving p k cell left owner idle =
+      let does : owner_doing (as_unbroken q).doing (unbroken_cell cell) ≡ Some doing.Idle =
+      ap (λ (o : Option ℕ). option_and_then (λ n. slice_get (as_unbroken q).doing n) o) owner
+      ∙ does-read q p doing.Idle idle in
+      ⊎_elim
+      (λ (leaves : owner_doing (as_unbroken q).doing (unbroken_cell cell) ≡ Some (doing.Leaving k)).
+      let both = sym does ∙ leaves in absurd (cc))
+      (λ (decided : (on : Bool)
+      × (owner_doing (as_unbroken q).doing (unbroken_cell cell) ≡ Some (doing.Decided k on))).
+      let both = sym does ∙ decided.1 in absurd (cc))
+      left.stage
 
--- in the cell of an idle pass's wait nobody is leaving
-pub idle-stands : (q : Queue) (p k : ℕ) (cell : CoreCell) (x : CoreState) → IsSoundAt q k cell x → IsInstalled x
-    → cell.owner ≡ Some p → slice_get q.doing p ≡ Some doing.Idle → IsStanding x
-idle-stands q p k cell state.Waiter s i owner idle = tt
-idle-stands q p k cell state.Resumed s i owner idle = tt
-idle-stands q p k cell state.Cancelling s i owner idle = absurd (not-leaving q p k cell s.0 owner idle)
-idle-stands q p k cell state.Delegated s i owner idle = absurd (not-leaving q p k cell s.0 owner idle)
-idle-stands q p k cell state.Empty s i owner idle = absurd i
-idle-stands q p k cell state.Value s i owner idle = absurd i
-idle-stands q p k cell state.Taken s i owner idle = absurd i
-idle-stands q p k cell state.Broken s i owner idle = absurd i
-idle-stands q p k cell state.Cancelled s i owner idle = absurd i
-idle-stands q p k cell state.Refused s i owner idle = absurd i
+  -- in the cell of an idle pass's wait nobody is leaving
+  pub idle-stands : (p k : ℕ) (cell : CoreCell) (x : CoreState) → slice_get q.cells k ≡ Some cell → cell.state ≡ x
+      → IsInstalled x
+      → cell.owner ≡ Some p → slice_get q.doing p ≡ Some doing.Idle → IsStanding x
+  idle-stands p k cell state.Waiter there at i owner idle = tt
+  idle-stands p k cell state.Resumed there at i owner idle = tt
+  idle-stands p k cell state.Cancelling there at i owner idle =
+      absurd (not-leaving p k cell (intact-sound sync q sound k cell state.Cancelling there at tt).0 owner idle)
+  idle-stands p k cell state.Delegated there at i owner idle =
+      absurd (not-leaving p k cell (intact-sound sync q sound k cell state.Delegated there at tt).0 owner idle)
+  idle-stands p k cell state.Empty there at i owner idle = absurd i
+  idle-stands p k cell state.Value there at i owner idle = absurd i
+  idle-stands p k cell state.Taken there at i owner idle = absurd i
+  idle-stands p k cell state.Broken there at i owner idle = absurd i
+  idle-stands p k cell state.Cancelled there at i owner idle = absurd i
+  idle-stands p k cell state.Refused there at i owner idle = absurd i
 
 -- a cell is as it was, or has gone on
 abbrev pub GoesOn : Hidden → Hidden → ℕ → Type 0

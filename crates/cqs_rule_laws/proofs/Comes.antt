@@ -1,5 +1,5 @@
 -- What was drawn to resume at, and what it says of a cell to a pass that is alone.
-use Rattle.std.proofs.Common.{◌≡◌, ◌≢◌, ℕ, ◌<◌, ◌≤◌, true, Option, Some, None, slice_get, sym, refl, ap, ◌∙◌, ⊎_elim, arith}
+use Rattle.std.proofs.Common.{◌≡◌, ◌≢◌, ℕ, ◌<◌, ◌≤◌, Bool, true, Option, Some, None, slice_get, sym, refl, ap, ◌∙◌, ⊎_elim, arith}
 use Rattle.std.proofs.lemmas.Bool.{cases_lt}
 use Rattle.std.proofs.lemmas.Option.{same_Some}
 use mathlib.Core.Logic.{dite}
@@ -11,9 +11,13 @@ use Rattle.cqs_core.specs.declared.cells.CoreCell.{CoreCell}
 use Rattle.cqs_core.specs.declared.cells.CoreState.{CoreState}
 use Rattle.cqs_core.specs.declared.cells.CoreState.TheVariants as state
 use Rattle.cqs_core.specs.declared.doings.Doing.TheVariants as doing
-use Rattle.cqs_core.specs.QueueSound.{IsSound, IsSoundAt, IsAwaited}
+use Rattle.cqs_core.specs.QueueAsUnbroken.{as_unbroken}
+use Rattle.cqs_core.specs.QueueEither.{IsSoundEither}
+use Rattle.cqs_core.specs.QueueSound.{IsAwaited}
 use Rattle.cqs_core.specs.QueueState.{Queue}
+use Rattle.cqs_core.proofs.EitherCells.{intact-sound, broken-reached, cells-made}
 use Rattle.cqs_core.proofs.Places.{get-below, get-none}
+use Rattle.cqs_core.proofs.QueueAsUnbroken.{has_ticket-unwatching}
 use Rattle.cqs_core.proofs.Tickets.{Holds, has_ticket-holds}
 use Rattle.cqs_rule_laws.specs.declared.view.View.{View}
 use Rattle.cqs_rule_laws.specs.Client.{IsClient}
@@ -25,30 +29,32 @@ use Rattle.cqs_rule_laws.specs.Ruled.{Ruled, Knows, cell_count}
 use Rattle.cqs_rule_laws.proofs.CrewLooks.{alone-rests}
 
 -- a sound queue in which no pass is on its way to the cell
-come-as : (q : Queue) (k : ℕ) → IsSound q → (Holds q.doing k → ⊥) → HasCome q.resumes k (state_at q k)
-come-as q k sound none = by (slice_get q.cells k) refl
+come-as : {sync : Bool} (q : Queue) (k : ℕ) → IsSoundEither sync q → (Holds q.doing k → ⊥)
+    → HasCome q.resumes k (state_at q k)
+come-as {sync} q k sound none = by (slice_get q.cells k) refl
   where
-    waits : IsAwaited q k → q.resumes ≤ k
-    waits awaited = ⊎_elim (λ (low : k < q.resumes). absurd (none (has_ticket-holds q.doing k (awaited low))))
+    waits : IsAwaited (as_unbroken q) k → q.resumes ≤ k
+    waits awaited = ⊎_elim (λ (low : k < q.resumes). absurd (none (has_ticket-holds q.doing k
+        (sym (has_ticket-unwatching k q.doing) ∙ awaited low))))
         (λ (past : q.resumes ≤ k). past) (cases_lt k q.resumes)
 
-    at : (cell : CoreCell) (s : CoreState) → IsSoundAt q k cell s → HasCome q.resumes k s
-    at cell state.Empty is = waits is.1
-    at cell state.Waiter is = waits is.1
-    at cell state.Cancelling is = waits is.1
-    at cell state.Value is = is.1
-    at cell state.Taken is = is.1
-    at cell state.Broken is = is
-    at cell state.Resumed is = is.1
-    at cell state.Delegated is = is.1
-    at cell state.Cancelled is = tt
-    at cell state.Refused is = tt
+    at : (cell : CoreCell) (s : CoreState) → slice_get q.cells k ≡ Some cell → cell.state ≡ s → HasCome q.resumes k s
+    at cell state.Empty there is = waits (intact-sound sync q sound k cell state.Empty there is tt).1
+    at cell state.Waiter there is = waits (intact-sound sync q sound k cell state.Waiter there is tt).1
+    at cell state.Cancelling there is = waits (intact-sound sync q sound k cell state.Cancelling there is tt).1
+    at cell state.Value there is = (intact-sound sync q sound k cell state.Value there is tt).1
+    at cell state.Taken there is = (intact-sound sync q sound k cell state.Taken there is tt).1
+    at cell state.Broken there is = broken-reached sync q sound k cell there is
+    at cell state.Resumed there is = (intact-sound sync q sound k cell state.Resumed there is tt).1
+    at cell state.Delegated there is = (intact-sound sync q sound k cell state.Delegated there is tt).1
+    at cell state.Cancelled there is = tt
+    at cell state.Refused there is = tt
 
     by : (o : Option CoreCell) → slice_get q.cells k ≡ o → HasCome q.resumes k (state_in o)
     by None finds =
         let past = get-none q.cells k finds in
-        let made = sound.made in omega arith
-    by (Some cell) finds = at cell cell.state (sound.cells.at k cell finds)
+        let made = cells-made sync q sound in omega arith
+    by (Some cell) finds = at cell cell.state finds refl
 
 module _ {E S : Type 0} (object : Object E) (primitive : Primitive E S) (passes limit : ℕ)
     (client : IsClient object primitive) where

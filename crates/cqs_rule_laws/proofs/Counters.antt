@@ -2,6 +2,7 @@
 -- numbers drawn with those who may draw stay below the limit and the passes.
 use Rattle.std.proofs.Common.{◌≡◌, ◌≢◌, ◌⊎◌, ℕ, suc, ◌+◌, ◌-◌, ◌%◌, ◌<◌, ◌≤◌, ◌^◌, Bool, true, false, List, [], ◌∷◌, ◌++◌, length, set, sym, refl, ap, ◌∙◌, subst, inl, inr, ⊎_elim, arith, Option, Some, None, slice_get, cond, ℤ, pos, unsigned_abs, if◌then◌else◌}
 use Rattle.std.specs.Prelude.{slice_index, count_by}
+use Rattle.std.proofs.lemmas.Bool.{cases_lt}
 use Rattle.std.proofs.lemmas.List.{length-set}
 use Rattle.std.proofs.lemmas.List.Sums.{sum_by-cons}
 use Rattle.std.proofs.lemmas.Option.{same_Some}
@@ -18,7 +19,7 @@ use Rattle.cqs_core.specs.Numbered.{pick_each}
 use Rattle.cqs_core.specs.QueueCells.{IsInstalled}
 use Rattle.cqs_core.specs.QueueLine.{at_door}
 use Rattle.cqs_core.specs.QueueLine as queue
-use Rattle.cqs_core.specs.QueueSound.{IsSound}
+use Rattle.cqs_core.specs.QueueEither.{IsSoundEither}
 use Rattle.cqs_core.specs.QueueStages as stage
 use Rattle.cqs_core.specs.QueueStages.{Stage, doing_at}
 use Rattle.cqs_core.specs.QueueState.{fresh_cell}
@@ -43,7 +44,7 @@ use Rattle.cqs_rule_laws.specs.Slots.{laid_in}
 use Rattle.cqs_rule_laws.specs.Views.{grown}
 use Rattle.cqs_rule_laws.specs.Manner.{IsSmart}
 use Rattle.cqs_rule_laws.proofs.ToRetire.{leaves-same}
-use Rattle.cqs_rule_laws.proofs.Over.{over-same}
+use Rattle.cqs_rule_laws.proofs.Over.{over-same, unwatched-same, suspended-same}
 use Rattle.cqs_rule_laws.proofs.Settled.{finals-on}
 use Rattle.cqs_rule_laws.proofs.CellPlaces.{behind-suspends, behind-resumes, suspends-inside, resumes-inside}
 use Rattle.cqs_rule_laws.proofs.Cells.{written_same, made_same, pushed-back, installed-drawn, since-on}
@@ -149,8 +150,8 @@ module _ (c : Hidden) (p k : ℕ) where
   }
 
   -- a wait that stands after a number was drawn stood before
-  pub drawn-wait_back : (found : Option CoreCell) (n j : ℕ) → slice_get c.queue.cells k ≡ found → k ≡ c.queue.suspends
-      → IsSound c.queue
+  pub drawn-wait_back : {sync : Bool} (found : Option CoreCell) (n j : ℕ) → slice_get c.queue.cells k ≡ found
+      → k ≡ c.queue.suspends → IsSoundEither sync c.queue
       → IsWaitOf (after_count to_suspend c.queue p k found) n j → IsWaitOf c.queue n j
   drawn-wait_back None n j e next sound w = ⊎_elim
       (λ (old : slice_get c.queue.cells j ≡ Some w.cell).
@@ -174,7 +175,7 @@ module _ (c : Hidden) (p k : ℕ) where
       ap (slice_get (set c.queue.cells k new)) q ∙ get-set_here c.queue.cells k found new e in
       let same : w.cell ≡ new = same_Some w.cell new (sym w.there ∙ here) in
       let stood : IsInstalled found.state = subst IsInstalled (ap (λ (x : CoreCell). x.state) same) w.installed in
-      let low = installed-drawn c.queue k found found.state (sound.cells.at k found e) stood in
+      let low = installed-drawn c.queue sound k found found.state e refl stood in
       absurd (omega arith))
       (λ (a : j ≢ k). record {
         cell = w.cell;
@@ -229,7 +230,8 @@ module _ (gains : Gains) (c : Hidden) (p k : ℕ) (at : Stage) (cost : Cost) (fo
   abbrev pub reached : Hidden
   reached = happened_by gains c (at_counter resume_row) p k found has payload
 
-  others-drawn : slice_get c.queue.cells k ≡ found → k ≡ c.queue.suspends → IsSound c.queue → OthersStay c drawn p
+  others-drawn : {sync : Bool} → slice_get c.queue.cells k ≡ found → k ≡ c.queue.suspends
+      → IsSoundEither sync c.queue → OthersStay c drawn p
   others-drawn there next sound = record {
     doing = λ n apart. get-set_else c.queue.doing p n (doing.Drawn k) (λ e. apart (sym e));
     waits = λ n j apart w. drawn-wait_back c p k found n j there next sound w;
@@ -261,8 +263,9 @@ module _ (gains : Gains) (c : Hidden) (p k : ℕ) (at : Stage) (cost : Cost) (fo
     };
   }
 
-  drawn-self : (n : ℕ) (f : Facts) → f.has ≡ has → n ≡ k → slice_get c.queue.cells k ≡ found → k ≡ c.queue.suspends
-      → IsSound c.queue → Stands c p f → Stands drawn p (facts_counted_by suspend_row n payload f)
+  drawn-self : {sync : Bool} (n : ℕ) (f : Facts) → f.has ≡ has → n ≡ k → slice_get c.queue.cells k ≡ found
+      → k ≡ c.queue.suspends
+      → IsSoundEither sync c.queue → Stands c p f → Stands drawn p (facts_counted_by suspend_row n payload f)
   drawn-self n f same here there next sound is = record {
     doing = get-set_here c.queue.doing p f.doing (doing.Drawn k) is.doing ∙ ap (λ z. Some (doing.Drawn z)) (sym here);
     has = get-set_here c.has p f.has (has_paid cost payload has) is.has
@@ -288,6 +291,63 @@ module _ (gains : Gains) (c : Hidden) (p k : ℕ) (at : Stage) (cost : Cost) (fo
     last = tt;
     behind = record { reached = omega arith; passed = (behind-more c.queue.resumes f is.behind).passed };
   }
+
+-- THE STAGES AT WHICH A NUMBER IS DRAWN: the pass is at none, and watches none.
+
+abbrev CountsAt : Stage → Type 0
+CountsAt stage.idle = Unit {0}
+CountsAt stage.door = Unit {0}
+CountsAt stage.owes = Unit {0}
+CountsAt stage.drawn = ⊥
+CountsAt stage.ticket = ⊥
+CountsAt stage.watching = ⊥
+CountsAt stage.leaving = ⊥
+CountsAt (stage.decided on) = ⊥
+
+abbrev RowCountsAt : StepRow → Type 0
+RowCountsAt (at_counter row) = CountsAt row.works_at
+RowCountsAt (at_cell row) = Unit {0}
+
+row-counts : (s : QueueStep) → RowCountsAt (row_of s)
+row-counts s = by (row_of s) refl ((step-facts s).draw)
+  where
+    of : (t : QueueStep) → IsDraw t → RowCountsAt (row_of t)
+    of t is_draws = tt
+    of t is_enters = tt
+    of t is_reaches = tt
+    of t is_begins = tt
+    of t is_puts = tt
+
+    by : (row : StepRow) → row_of s ≡ row → DrawOf row s → RowCountsAt row
+    by (at_counter row) is d = subst RowCountsAt is (of s d)
+    by (at_cell row) is d = tt
+
+counts-at : (s : QueueStep) {at : Stage} {counter : Counter} {cost : Cost}
+    → row_of s ≡ at_counter (record { works_at = at; counter = counter; cost = cost }) → CountsAt at
+counts-at s is = subst RowCountsAt is (row-counts s)
+
+no-watch : (at : Stage) (i : ℕ) → CountsAt at → doing_at at 0 ≡ doing.Watching i → ⊥
+no-watch stage.idle i c e = absurd (cc)
+no-watch stage.door i c e = absurd (cc)
+no-watch stage.owes i c e = absurd (cc)
+no-watch stage.drawn i c e = c
+no-watch stage.ticket i c e = c
+no-watch stage.watching i c e = c
+no-watch stage.leaving i c e = c
+no-watch (stage.decided on) i c e = c
+
+no-draw : (at : Stage) (i : ℕ) → CountsAt at → doing_at at 0 ≡ doing.Drawn i → ⊥
+no-draw stage.idle i c e = absurd (cc)
+no-draw stage.door i c e = absurd (cc)
+no-draw stage.owes i c e = absurd (cc)
+no-draw stage.drawn i c e = c
+no-draw stage.ticket i c e = c
+no-draw stage.watching i c e = c
+no-draw stage.leaving i c e = c
+no-draw (stage.decided on) i c e = c
+
+not-counting : (d : Doing) (at : Stage) (e : Doing) → d ≡ doing_at at 0 → d ≡ e → (doing_at at 0 ≡ e → ⊥) → ⊥
+not-counting d at e works is no_such = no_such (sym works ∙ is)
 
 module _ {E S : Type 0} (object : Object E) (primitive : Primitive E S) (passes limit : ℕ)
     (client : IsClient object primitive) where
@@ -340,7 +400,8 @@ module _ {E S : Type 0} (object : Object E) (primitive : Primitive E S) (passes 
       (λ (d : f.doing ≡ doing.Door). r.door p (stands.doing ∙ ap Some d))
       (λ (m : f.may_draw ≡ true). stands.may_draw ∙ ap Some m) may in
       let low = suspends-low passes limit primitive.values c r.room in
-      let sound : IsSound c.queue = client.sound c (client_words s.words) r.log r.handed r.shown in
+      let sound : IsSoundEither primitive.manner.watches c.queue =
+      client.sound c (client_words s.words) r.log r.handed r.shown in
       let after : x ≡ k + 1 = omega arith in
       let inside = suspends-inside r.slots in
       let wide = r.cells.shows.wide in
@@ -357,6 +418,9 @@ module _ {E S : Type 0} (object : Object E) (primitive : Primitive E S) (passes 
       let now : primitive.shows d (client_words s.words) (r.log ++ es) r.handed =
       subst (λ z. primitive.shows (happened_by object.gains c z p n found f.has payload) (client_words s.words)
       (r.log ++ es) r.handed) is by in
+      let drawn-now : (i : ℕ) → i < d.queue.suspends → (i < k) ⊎ (facts.doing ≡ doing.Drawn i) = λ i low.
+      ⊎_elim (λ (old : i < k). inl old) (λ (new : k ≤ i). inr (ap doing.Drawn (let same : n ≡ i = omega arith in same)))
+      (cases_lt i k) in
       let t : Turned object primitive passes limit s r v 16 x d es facts = record {
         crew = crew-else s.words 16 x (omega arith);
         counters = record {
@@ -394,9 +458,18 @@ module _ {E S : Type 0} (object : Object E) (primitive : Primitive E S) (passes 
         finals = finals-on (IsSmart primitive.manner.leaving) c d p r.settled f facts
             (others-drawn object.gains c p n at cost found f.has payload refl next sound) stands
             (drawn-self object.gains c p n at cost found f.has payload n f refl refl refl next sound stands)
-            (λ j high. drawn-state c p n found j refl) (λ j high h. h) (λ j e. absurd (cc)) (omega arith) r.finals;
+            (λ j high. drawn-state c p n found j refl) (λ j high h. h) (λ j e. absurd (cc))
+            (λ j e. inr (let q : n ≡ j = ap number_at e in omega arith)) (λ j e. absurd (cc)) (omega arith)
+            (omega arith) r.finals;
         over = λ j o. r.all_settled j (over-same (IsSmart primitive.manner.leaving) c.queue d.queue j
-            (drawn-state c p n found j refl) (λ m w. drawn-wait c p n found m j refl next w) o);
+            (drawn-state c p n found j refl) (λ m w. drawn-wait c p n found m j refl next w)
+            (unwatched-same c d p f facts (others-drawn object.gains c p n at cost found f.has payload refl next sound)
+            stands (drawn-self object.gains c p n at cost found f.has payload n f refl refl refl next sound stands)
+            (λ i e. absurd (not-counting f.doing at (doing.Watching i) works e (no-watch at i (counts-at st is)))) j)
+            (suspended-same c d p f facts (others-drawn object.gains c p n at cost found f.has payload refl next sound)
+            stands (drawn-self object.gains c p n at cost found f.has payload n f refl refl refl next sound stands)
+            (λ i e. absurd (not-counting f.doing at (doing.Drawn i) works e (no-draw at i (counts-at st is))))
+            (λ i low. drawn-now i low) j) o);
         same_slots = λ y. refl;
         same_spares = refl;
         leaves = leaves-same r.segments _;
@@ -520,9 +593,17 @@ module _ {E S : Type 0} (object : Object E) (primitive : Primitive E S) (passes 
             (others-reached object.gains c p n at cost found f.has payload) stands
             (reached-self object.gains c p n at cost found f.has payload n f refl refl next stands)
             (λ j high. reached-state c p n found j) (λ j high h. h)
-            (λ j e. inr (let q : n ≡ j = ap number_at e in omega arith)) (omega arith) r.finals;
+            (λ j e. inr (let q : n ≡ j = ap number_at e in omega arith)) (λ j e. absurd (cc)) (λ j e. absurd (cc))
+            (omega arith) (omega arith) r.finals;
         over = λ j o. r.all_settled j (over-same (IsSmart primitive.manner.leaving) c.queue d.queue j
-            (reached-state c p n found j) (λ m w. reached-wait c p n found m j w) o);
+            (reached-state c p n found j) (λ m w. reached-wait c p n found m j w)
+            (unwatched-same c d p f facts (others-reached object.gains c p n at cost found f.has payload) stands
+            (reached-self object.gains c p n at cost found f.has payload n f refl refl next stands)
+            (λ i e. absurd (not-counting f.doing at (doing.Watching i) works e (no-watch at i (counts-at st is)))) j)
+            (suspended-same c d p f facts (others-reached object.gains c p n at cost found f.has payload) stands
+            (reached-self object.gains c p n at cost found f.has payload n f refl refl next stands)
+            (λ i e. absurd (not-counting f.doing at (doing.Drawn i) works e (no-draw at i (counts-at st is))))
+            (λ i low. inl low) j) o);
         same_slots = λ y. refl;
         same_spares = refl;
         leaves = leaves-same r.segments _;

@@ -1,5 +1,5 @@
 -- A jump of the resume counter keeps the rule: it is as if each number were drawn, and its cell met.
-use Rattle.std.proofs.Common.{◌≡◌, ℕ, suc, zero, ◌+◌, ◌-◌, ◌/◌, ◌<◌, ◌≤◌, ◌==◌, List, [], ◌++◌, set, inl, ⊎_elim, sym, refl, ap, ◌∙◌, subst, eq-eqb, ne_eqb, arith, Option, Some, None, slice_get}
+use Rattle.std.proofs.Common.{◌≡◌, ℕ, suc, zero, ◌+◌, ◌-◌, ◌/◌, ◌<◌, ◌≤◌, ◌==◌, Bool, List, [], ◌++◌, set, inl, ⊎_elim, sym, refl, ap, ◌∙◌, subst, eq-eqb, ne_eqb, arith, Option, Some, None, slice_get}
 use Rattle.std.specs.Prelude.{slice_index}
 use Rattle.std.proofs.lemmas.Bool.{cases_lt}
 use Rattle.std.proofs.lemmas.List.{append-nil, set-set}
@@ -11,7 +11,8 @@ use Rattle.atomic_table.specs.Table.{State, Me, keeps, step, Allows}
 use Rattle.cqs_core.specs.declared.cells.CoreCell.{CoreCell}
 use Rattle.cqs_core.specs.declared.cells.CoreState.TheVariants as state
 use Rattle.cqs_core.specs.declared.doings.Doing.TheVariants as doing
-use Rattle.cqs_core.specs.QueueSound.{IsSound, IsSoundAt}
+use Rattle.cqs_core.specs.QueueEither.{IsSoundEither}
+use Rattle.cqs_core.proofs.EitherCells.{intact-sound}
 use Rattle.cqs_core.specs.QueueSteps.{reaches, passes_over}
 use Rattle.cqs_core.proofs.Places.{get-set_here, set-same}
 use Rattle.cqs_rule_laws.specs.declared.view.Facts.{Facts}
@@ -230,12 +231,11 @@ module _ (c : Hidden) (m : ℕ) where
   }
 
 -- a cancelled cell is one of a number that was drawn
-cancelled-drawn : (c : Hidden) (k : ℕ) → IsSound c.queue → state_at c.queue k ≡ state.Cancelled → k < c.queue.suspends
-cancelled-drawn c k sound is =
+cancelled-drawn : {sync : Bool} (c : Hidden) (k : ℕ) → IsSoundEither sync c.queue
+    → state_at c.queue k ≡ state.Cancelled → k < c.queue.suspends
+cancelled-drawn {sync} c k sound is =
     let at = stood (slice_get c.queue.cells k) is in
-    let cell : IsSoundAt c.queue k at.cell state.Cancelled =
-    subst (IsSoundAt c.queue k at.cell) at.cancelled (sound.cells.at k at.cell at.there) in
-    cell.0.drawn
+    (intact-sound sync c.queue sound k at.cell state.Cancelled at.there at.cancelled tt).0.drawn
 
 module _ {E S : Type 0} (object : Object E) (primitive : Primitive E S) (passes limit : ℕ) where
   abbrev R : State (Option S) (View E S) → Type 0
@@ -302,7 +302,7 @@ module _ {E S : Type 0} (object : Object E) (primitive : Primitive E S) (passes 
       at : Stands r.hidden me.0.number me.0.facts
       at = known.stands
 
-      sound : IsSound r.hidden.queue
+      sound : IsSoundEither primitive.manner.watches r.hidden.queue
       sound = client.sound r.hidden (client_words s.words) r.log r.handed r.shown
 
       -- each cell between is cancelled
@@ -379,9 +379,10 @@ module _ {E S : Type 0} (object : Object E) (primitive : Primitive E S) (passes 
             settles = r.settled;
             counts = λ q. refl;
             finals = finals-on (IsSmart primitive.manner.leaving) c d p r.settled f facts others at self
-                (λ j high. refl) (λ j high h. h) (λ j e. inl e) more r.finals;
+                (λ j high. refl) (λ j high h. h) (λ j e. inl e) (λ j e. inl e) (λ j e. inl e) more (omega arith)
+                r.finals;
             over = λ j o. r.all_settled j (over-same (IsSmart primitive.manner.leaving) c.queue d.queue j refl
-                (λ m w. wait-on c x m j w) o);
+                (λ m w. wait-on c x m j w) (λ none. none) (λ come. come) o);
             same_slots = λ y. refl;
             same_spares = refl;
             leaves = leaves-same r.segments _;

@@ -48,7 +48,6 @@ pub mod Retiring
 pub mod Linking
 pub mod PassedOver
 pub mod Jumps
-pub mod Finals
 pub mod Near
 pub mod StandStill
 pub mod Opens

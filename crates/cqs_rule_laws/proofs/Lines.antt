@@ -11,7 +11,8 @@ use Rattle.cqs_core.specs.declared.doings.Doing.{Doing}
 use Rattle.cqs_core.specs.Numbered.{pick_each, cons_option}
 use Rattle.cqs_core.specs.QueueCells.{rank}
 use Rattle.cqs_core.specs.QueueLine.{Waiting, line, in_line, waiting_of, stays_in_line}
-use Rattle.cqs_core.specs.QueueSound.{IsSound}
+use Rattle.cqs_core.specs.QueueEither.{IsSoundEither}
+use Rattle.cqs_core.proofs.EitherCells.{cells-made}
 use Rattle.cqs_core.specs.QueueState.{Queue, owner_doing}
 use Rattle.cqs_core.proofs.Places.{get-below}
 use Rattle.cqs_slots.proofs.Unsettled.{few-unsettled}
@@ -131,7 +132,7 @@ module _ {E S : Type 0} (object : Object E) (primitive : Primitive E S) (passes 
       q : Queue
       q = r.hidden.queue
 
-      sound : IsSound q
+      sound : IsSoundEither primitive.manner.watches q
       sound = client.sound r.hidden (client_words s.words) r.log r.handed r.shown
 
       waits : (k : ℕ) → IsPicked (in_line q.doing) 0 q.cells k
@@ -143,7 +144,7 @@ module _ {E S : Type 0} (object : Object E) (primitive : Primitive E S) (passes 
           let owner = owner_doing q.doing cell in
           let stays = waits-stay k cell.owner (stays_in_line k cell.state owner) is.read is.picked in
           let low : rank cell.state < 4 = line-rank k cell.state owner stays in
-          let made = sound.made in
+          let made = cells-made primitive.manner.watches q sound in
           let below = get-below q.cells k cell here in (
             ⊎_elim
                 (λ (e : r.settled k ≡ true).

@@ -7,13 +7,14 @@ use Rattle.std.proofs.lemmas.Option.{same_Some}
 use mathlib.Core.Option.{some}
 use lib.ListN.{get_elem?}
 use Rattle.atomic_table.specs.Table.{State, Me, keeps, stepped, Allows}
+use Rattle.cqs_core.specs.declared.doings.Doing.{Doing}
 use Rattle.cqs_core.specs.declared.doings.Doing.TheVariants as doing
 use Rattle.cqs_core.proofs.Places.{get-set_here, get-set_else}
 use Rattle.cqs_rule_laws.specs.declared.view.View.{View}
 use Rattle.cqs_rule_laws.specs.declared.view.Facts.{Facts}
 use Rattle.cqs_rule_laws.specs.declared.view.Opening.{Opening}
 use Rattle.cqs_rule_laws.specs.Client.{IsClient}
-use Rattle.cqs_rule_laws.specs.Events.{Moment, Event, moment, has_then, facts_moved, HasWord, Moved, Moves, SlotsStay, IsShort}
+use Rattle.cqs_rule_laws.specs.Events.{Moment, Event, moment, has_then, facts_moved, HasWord, Moved, Moves, SlotsStay, IsShort, IsAway, StaysAway}
 use Rattle.cqs_rule_laws.specs.Facts.{is_owing, IsBehind}
 use Rattle.cqs_rule_laws.specs.Hidden.{Hidden, stands_at}
 use Rattle.cqs_rule_laws.specs.Layout.{client_words, client_place}
@@ -24,7 +25,7 @@ use Rattle.cqs_rule_laws.specs.Saw.{Saw, IsLive, WasFound}
 use Rattle.cqs_rule_laws.specs.Views.{grown}
 use Rattle.cqs_rule_laws.specs.Manner.{IsSmart}
 use Rattle.cqs_rule_laws.proofs.ToRetire.{leaves-same}
-use Rattle.cqs_rule_laws.proofs.Over.{over-same}
+use Rattle.cqs_rule_laws.proofs.Over.{over-same, unwatched-same, suspended-same}
 use Rattle.cqs_rule_laws.proofs.Settled.{finals-on}
 use Rattle.cqs_rule_laws.proofs.CellPlaces.{behind-client, client-inside}
 use Rattle.cqs_rule_laws.proofs.Advance.{Turned}
@@ -74,6 +75,19 @@ stands-moved c p facts after may waits last behind at = record {
   behind = behind;
 }
 
+-- a pass that is somewhere after a step, or before it, was there before, or is there after it
+away-back : (from to e : Doing) → (IsAway e → ⊥) → StaysAway from to → to ≡ e → from ≡ e
+away-back from to e there stays is = ⊎_elim
+    (λ (same : to ≡ from). sym same ∙ is)
+    (λ (both : IsAway from × IsAway to). absurd (there (subst IsAway is both.1)))
+    stays
+
+away-on : (from to e : Doing) → (IsAway e → ⊥) → StaysAway from to → from ≡ e → to ≡ e
+away-on from to e there stays is = ⊎_elim
+    (λ (same : to ≡ from). same ∙ is)
+    (λ (both : IsAway from × IsAway to). absurd (there (subst IsAway is both.0)))
+    stays
+
 module _ {C E S : Type 0} (object : Object E) (primitive : C → Primitive E S) (passes limit : ℕ) (x : C)
     (client : IsClient object (primitive x)) (event : Event E) (made : ℕ → Bool) where
   -- what the step at this place tells the pass
@@ -120,6 +134,11 @@ module _ {C E S : Type 0} (object : Object E) (primitive : C → Primitive E S) 
         line = line-short object (primitive x) passes limit s r client;
         drawn = let g = r.room.ground in let p = r.room.few_passes in let l = r.suits in omega arith;
       } in
+      let self-after = stands-moved c p facts after refl refl refl
+      (record {
+        reached = kept-low (is_owing facts.doing) facts.reached c.queue.resumes at.behind.reached;
+        passed = at.behind.passed;
+      }) at in
       let t : Turned object (primitive x) passes limit s r v word (f n) d es after = record {
         crew = crew-else s.words word (f n) (omega arith);
         counters = counters-else c.queue d.queue s.words word (f n) (omega arith) refl refl r.counters;
@@ -177,7 +196,10 @@ module _ {C E S : Type 0} (object : Object E) (primitive : C → Primitive E S) 
               reached = kept-low (is_owing facts.doing) facts.reached c.queue.resumes at.behind.reached;
               passed = at.behind.passed;
             }) at)
-            (λ j high. refl) (λ j high h. h) (λ j e. inl (law.ticket n j e)) (omega arith) r.finals;
+            (λ j high. refl) (λ j high h. h) (λ j e. inl (law.ticket n j e))
+            (λ j e. inl (away-back facts.doing now (doing.Drawn j) (λ z. z) (law.away n) e))
+            (λ j e. inl (away-back facts.doing now (doing.Watching j) (λ z. z) (law.away n) e))
+            (omega arith) (omega arith) r.finals;
         over = λ j o. r.all_settled j (over-same (IsSmart (primitive x).manner.leaving) c.queue d.queue j refl
             (λ m w. record {
               cell = w.cell;
@@ -186,7 +208,11 @@ module _ {C E S : Type 0} (object : Object E) (primitive : C → Primitive E S) 
               drawn = w.drawn;
               uncollected = w.uncollected;
               installed = w.installed;
-            }) o);
+            })
+            (unwatched-same c d p facts after (others-moved c p now (has_then event m)) at self-after
+            (λ i e. away-on facts.doing now (doing.Watching i) (λ z. z) (law.away n) e) j)
+            (suspended-same c d p facts after (others-moved c p now (has_then event m)) at self-after
+            (λ i e. away-on facts.doing now (doing.Drawn i) (λ z. z) (law.away n) e) (λ i low. inl low) j) o);
         same_slots = λ y. refl;
         same_spares = refl;
         leaves = leaves-same r.segments _;

@@ -1,9 +1,16 @@
 -- How far the drawn numbers are from the last segment that is made.
-use Rattle.std.proofs.Common.{◌≡◌, ◌⊎◌, ℕ, ◌+◌, ◌*◌, ◌/◌, ◌<◌, ◌≤◌, subst, ap, ◌∙◌, ⊎_elim, inl, inr, arith, Option, Some}
+use Rattle.std.proofs.Common.{◌≡◌, ◌⊎◌, ℕ, ◌+◌, ◌*◌, ◌/◌, ◌<◌, ◌≤◌, length, subst, sym, ap, ◌∙◌, ⊎_elim, inl, inr, arith, Option, Some}
+use Rattle.std.proofs.lemmas.List.{length-map}
+use Rattle.cqs_core.specs.declared.cells.CoreCell.{CoreCell}
+use Rattle.cqs_core.specs.declared.cells.CoreState.TheVariants as state
 use mathlib.Core.Option.{some}
 use lib.ListN.{get_elem?}
-use Rattle.cqs_core.specs.declared.doings.Doing.TheVariants as doing
-use Rattle.cqs_core.specs.QueueSound.{IsOwn, IsSound, IsTicket, IsUntaken}
+use Rattle.cqs_core.specs.QueueAsUnbroken.{as_unbroken, unbroken_cell, unbroken_state, unwatching}
+use Rattle.cqs_core.specs.QueueEither.{IsSoundEither}
+use Rattle.cqs_core.specs.QueueState.{Queue}
+use Rattle.cqs_core.specs.QueueUnmade.{UnmadeEmpty}
+use Rattle.cqs_core.proofs.EitherCells.{drawn-below, ticket-reached}
+use Rattle.cqs_core.proofs.QueueAsUnbroken.{IsMapped, map-get}
 use Rattle.cqs_core.proofs.UnmadeCounts.{one-past}
 use Rattle.cqs_rule_laws.specs.declared.view.View.{View}
 use Rattle.cqs_rule_laws.specs.Client.{IsClient}
@@ -17,6 +24,15 @@ use Rattle.cqs_rule_laws.specs.SegmentSteps.{HasDrawn}
 use Rattle.atomic_table.specs.Table.{State}
 use Rattle.cqs_rule_laws.proofs.Stale.{unmade-empty}
 
+-- the cells of a segment that isn't made are empty in the reading, too
+unmade-read : (q : Queue) (tail : ℕ) → UnmadeEmpty q tail → UnmadeEmpty (as_unbroken q) tail
+unmade-read q tail unmade = record {
+  empty = λ k cell past there.
+      let from : IsMapped unbroken_cell q.cells k cell = map-get unbroken_cell q.cells k cell there in
+      let is : from.element.state ≡ state.Empty = unmade.empty k from.element past from.there in
+      ap (λ (c : CoreCell). c.state) (sym from.is) ∙ ap (λ s. unbroken_state s from.element.collected) is;
+}
+
 -- THE COUNTING. The segment of a drawn number is at most one past the last that is made: so one spare slot is enough.
 pub drawn-near : {E S : Type 0} (object : Object E) (primitive : Primitive E S) (passes limit : ℕ)
     → IsClient object primitive → (s : State (Option S) (View E S))
@@ -26,9 +42,12 @@ drawn-near object primitive passes limit client s r k drawn =
     let room = r.room in
     let doing = room.doing in
     let few = room.few_passes in
-    one-past r.hidden.queue r.segments.tail k
-    (client.sound r.hidden (client_words s.words) r.log r.handed r.shown)
-    (unmade-empty r.segments r.hidden _ s.words r.cells) (omega arith) drawn
+    let long : length (as_unbroken r.hidden.queue).doing ≡ length r.hidden.queue.doing =
+    length-map r.hidden.queue.doing unwatching in
+    one-past (as_unbroken r.hidden.queue) r.segments.tail k
+    (client.sound r.hidden (client_words s.words) r.log r.handed r.shown).reads
+    (unmade-read r.hidden.queue r.segments.tail (unmade-empty r.segments r.hidden _ s.words r.cells)) (omega arith)
+    drawn
 
 -- a number that a pass is to suspend or to resume at was drawn
 pub drawn-near-by : {E S : Type 0} (object : Object E) (primitive : Primitive E S) (passes limit : ℕ)
@@ -37,15 +56,13 @@ pub drawn-near-by : {E S : Type 0} (object : Object E) (primitive : Primitive E 
     → get_elem? s.views id ≡ some v → 0 < v.weight → HasDrawn v k → k / 32 ≤ r.segments.tail + 1
 drawn-near-by object primitive passes limit client s r id v k here on has =
     drawn-near object primitive passes limit client s r k (⊎_elim
-    (λ e. let own : IsOwn r.hidden.queue v.number k IsUntaken =
-    sound.passes.at v.number (doing.Drawn k) (at.doing ∙ ap Some e) in inl own.drawn)
-    (λ e. let ticket : IsTicket r.hidden.queue k =
-    sound.passes.at v.number (doing.Ticket k) (at.doing ∙ ap Some e) in inr ticket.reached) has)
+    (λ e. inl (drawn-below primitive.manner.watches r.hidden.queue sound v.number k (at.doing ∙ ap Some e)))
+    (λ e. inr (ticket-reached primitive.manner.watches r.hidden.queue sound v.number k (at.doing ∙ ap Some e))) has)
   where
     at : Stands r.hidden v.number v.facts
     at = (r.each_view id v here on).stands
 
-    sound : IsSound r.hidden.queue
+    sound : IsSoundEither primitive.manner.watches r.hidden.queue
     sound = client.sound r.hidden (client_words s.words) r.log r.handed r.shown
 
 -- a wait stands in a cell, so its segment was made

@@ -7,10 +7,12 @@ use Rattle.atomic_table.specs.Table.{State}
 use Rattle.cqs_core.specs.declared.cells.CoreState.{CoreState}
 use Rattle.cqs_core.specs.declared.cells.CoreState.TheVariants as state
 use Rattle.cqs_core.specs.QueueCells.{rank}
-use Rattle.cqs_core.specs.QueueSound.{IsSound}
+use Rattle.cqs_core.specs.QueueEither.{IsSoundEither}
 use Rattle.cqs_core.specs.QueueStages as stage
-use Rattle.cqs_core.specs.QueueStages.{Stage, doing_at, MayFind}
-use Rattle.cqs_core.proofs.QueueUniform.{HasCell, HasNumber, has-cell}
+use Rattle.cqs_core.specs.QueueMoves.{IsCancelling}
+use Rattle.cqs_core.specs.QueueStages.{Stage, doing_at}
+use Rattle.cqs_core.proofs.EitherCells.{has-cell}
+use Rattle.cqs_core.proofs.QueueUniform.{HasCell, HasNumber}
 use Rattle.cqs_slots.proofs.Stands.{left-settled}
 use Rattle.cqs_rule_laws.specs.declared.config.CancelMode.TheVariants.{Simple}
 use Rattle.cqs_rule_laws.specs.declared.view.Opening.{Opening}
@@ -26,27 +28,14 @@ use Rattle.cqs_rule_laws.specs.SegmentSteps.{IsOwnNumber}
 use Rattle.cqs_rule_laws.specs.Settling.{duties_in}
 use Rattle.cqs_rule_laws.proofs.CellsStand.{number-split, place-few}
 
--- a cell that is to be installed in isn't final
-pub untaken : (x : CoreState) → MayFind stage.drawn x → rank x ≡ 4 → ⊥
-untaken state.Empty m h = omega arith
-untaken state.Value m h = omega arith
-untaken state.Waiter m h = m
-untaken state.Taken m h = m
-untaken state.Broken m h = m
-untaken state.Resumed m h = m
-untaken state.Cancelling m h = m
-untaken state.Delegated m h = m
-untaken state.Cancelled m h = m
-untaken state.Refused m h = m
-
 -- who leaves in simple mode is not passed over
 simple-smart : (l : Leaving) → mode_for l ≡ Simple → IsSmart l → ⊥
 simple-smart asks e smart = absurd (cc)
 simple-smart passes_on e smart = absurd (cc)
 simple-smart at_once e smart = smart
 
--- nor is one whose wait is leaving
-pub cancelling : (x : CoreState) → MayFind stage.leaving x → rank x ≡ 4 → ⊥
+-- a cell whose wait is leaving isn't final
+pub cancelling : (x : CoreState) → IsCancelling x → rank x ≡ 4 → ⊥
 cancelling state.Cancelling m h = omega arith
 cancelling state.Delegated m h = omega arith
 cancelling state.Empty m h = m
@@ -77,7 +66,7 @@ module _ {E S : Type 0} (object : Object E) (primitive : Primitive E S) (passes 
   pub own-stands : IsClient object primitive → (s : State (Option S) (View E S)) (r : R s) (id : ℕ) (v : View E S)
       (k : ℕ) → get_elem? s.views id ≡ some v → 0 < v.weight → IsOwnNumber v k → Has (k / 32) r.segments.outs → ⊥
   own-stands client s r id v k here on own out = ⊎_elim
-      (λ e. untaken (cell stage.drawn e tt).cell.state (cell stage.drawn e tt).may (high stage.drawn e tt))
+      (λ e. final.come v.number (at.doing ∙ ap Some e))
       (λ rest. ⊎_elim (λ has. final.unwaited v.number (at.waits k has))
       (λ more. ⊎_elim
       (λ e. cancelling (cell stage.leaving e tt).cell.state (cell stage.leaving e tt).may (high stage.leaving e tt))
@@ -95,11 +84,12 @@ module _ {E S : Type 0} (object : Object E) (primitive : Primitive E S) (passes 
       final : IsFinal (IsSmart primitive.manner.leaving) r.hidden.queue k
       final = out-final s r k out
 
-      sound : IsSound r.hidden.queue
+      sound : IsSoundEither primitive.manner.watches r.hidden.queue
       sound = client.sound r.hidden (client_words s.words) r.log r.handed r.shown
 
-      cell : (a : Stage) → v.facts.doing ≡ doing_at a k → HasNumber a → HasCell r.hidden.queue v.number a k
-      cell a e n = has-cell r.hidden.queue v.number a k sound (at.doing ∙ ap Some e) n
+      cell : (a : Stage) → v.facts.doing ≡ doing_at a k → HasNumber a
+          → HasCell primitive.manner.watches r.hidden.queue v.number a k
+      cell a e n = has-cell primitive.manner.watches r.hidden.queue sound v.number a k (at.doing ∙ ap Some e) n
 
       high : (a : Stage) (e : v.facts.doing ≡ doing_at a k) (n : HasNumber a) → rank (cell a e n).cell.state ≡ 4
       high a e n = sym (ap rank (ap state_in (cell a e n).there)) ∙ final.final

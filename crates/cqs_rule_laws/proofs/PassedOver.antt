@@ -6,7 +6,7 @@ use mathlib.Core.Option.{none}
 use Rattle.atomic_table.specs.Table.{State, Me, keeps, step, Allows}
 use Rattle.cqs_core.specs.declared.cells.CoreState.TheVariants as state
 use Rattle.cqs_core.specs.declared.doings.Doing.TheVariants as doing
-use Rattle.cqs_core.specs.QueueSound.{IsSound}
+use Rattle.cqs_core.specs.QueueEither.{IsSoundEither}
 use Rattle.cqs_core.specs.QueueStages as stage
 use Rattle.cqs_core.specs.QueueSteps.{CellRow, passes_over, wait_stays, nothing, IsOpenRow, at_cell}
 use Rattle.cqs_core.proofs.QueueRows.{row-of}
@@ -45,6 +45,8 @@ row = record {
   brings = false;
   wait = wait_stays;
   gain = nothing;
+  collects = false;
+  settles = false;
 }
 
 module _ {E S : Type 0} (object : Object E) (primitive : Primitive E S) (passes limit : ℕ) where
@@ -104,10 +106,11 @@ module _ {E S : Type 0} (object : Object E) (primitive : Primitive E S) (passes 
       met : (state_at r.hidden.queue k ≡ state.Cancelled) × IsSmart primitive.manner.leaving
       met = final.met me.0.number (at.doing ∙ ap Some does)
 
-      sound : IsSound r.hidden.queue
+      sound : IsSoundEither primitive.manner.watches r.hidden.queue
       sound = client.sound r.hidden (client_words s.words) r.log r.handed r.shown
 
-      stood : WorksAt r.hidden (cell_count passes limit primitive.values) me.0.number k stage.ticket
+      stood : WorksAt primitive.manner.watches r.hidden (cell_count passes limit primitive.values) me.0.number k
+          stage.ticket
       stood = works-at r.hidden passes limit primitive.values me.0.number k stage.ticket me.0.facts r.room sound at does
           tt tt
 

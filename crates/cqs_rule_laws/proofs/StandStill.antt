@@ -31,6 +31,7 @@ silent-moves {E} {S} object primitive p facts i = record {
   silent = λ n m apart. refl;
   door = λ n q. inl q;
   ticket = λ n k e. e;
+  away = λ n. inl refl;
   owed = λ n owing. refl;
   keeps = λ n none. refl;
   owing = λ n none. refl;

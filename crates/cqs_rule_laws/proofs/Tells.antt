@@ -1,12 +1,13 @@
 -- What a step that keeps the rule tells its pass.
-use Rattle.std.proofs.Common.{◌≡◌, ℕ, ◌<◌, List, ◌++◌, arith, Option, Some, slice_get}
+use Rattle.std.proofs.Common.{◌≡◌, ℕ, ◌<◌, Bool, List, ◌++◌, arith, Option, Some, slice_get}
 use Rattle.std.specs.Prelude.{slice_set}
 use mathlib.Core.Option.{some}
 use lib.ListN.{get_elem?}
 use Rattle.atomic_table.specs.Table.{State, Me, keeps, stepped}
 use Rattle.cqs_core.specs.declared.doings.Doing.{Doing}
 use Rattle.cqs_core.specs.declared.doings.Doing.TheVariants as doing
-use Rattle.cqs_core.specs.QueueSound.{IsSound, IsPass}
+use Rattle.cqs_core.specs.QueueEither.{IsSoundEither}
+use Rattle.cqs_core.proofs.EitherCells.{drawn-below, leaving-below, decided-below, ticket-reached, watched-below}
 use Rattle.cqs_rule_laws.specs.declared.view.View.{View}
 use Rattle.cqs_rule_laws.specs.declared.view.Facts.{Facts}
 use Rattle.cqs_rule_laws.specs.Hidden.{Hidden}
@@ -21,10 +22,11 @@ use Rattle.cqs_rule_laws.proofs.Lines.{waits-short}
 use Rattle.cqs_rule_laws.proofs.Lists.{set_there}
 
 -- the number at which a pass works is that of a cell
-pub inside-of : (passes limit values : ℕ) (c : Hidden) (p : ℕ) (d : Doing) → HasRoom passes limit values c
-    → IsSound c.queue
+pub inside-of : {sync : Bool} (passes limit values : ℕ) (c : Hidden) (p : ℕ) (d : Doing)
+    → HasRoom passes limit values c
+    → IsSoundEither sync c.queue
     → slice_get c.queue.doing p ≡ Some d → number_at d < cell_count passes limit values
-inside-of passes limit values c p d room sound is = by-doing d (sound.passes.at p d is)
+inside-of {sync} passes limit values c p d room sound is = by-doing d is
   where
     some-cell : 0 < cell_count passes limit values
     some-cell = let g = room.ground in omega arith
@@ -32,12 +34,15 @@ inside-of passes limit values c p d room sound is = by-doing d (sound.passes.at 
     drawn-low : (k : ℕ) → k < c.queue.suspends → k < cell_count passes limit values
     drawn-low k low = let g = room.ground in omega arith
 
-    by-doing : (x : Doing) → IsPass c.queue p x → number_at x < cell_count passes limit values
-    by-doing (doing.Drawn k) own = drawn-low k own.drawn
-    by-doing (doing.Leaving k) own = drawn-low k own.drawn
-    by-doing (doing.Watching k) own = absurd own
-    by-doing (doing.Decided k on) own = drawn-low k own.drawn
-    by-doing (doing.Ticket k) own = let r = own.reached in let h = room.resumes in omega arith
+    reached-low : (k : ℕ) → k < c.queue.resumes → k < cell_count passes limit values
+    reached-low k low = let h = room.resumes in omega arith
+
+    by-doing : (x : Doing) → slice_get c.queue.doing p ≡ Some x → number_at x < cell_count passes limit values
+    by-doing (doing.Drawn k) does = drawn-low k (drawn-below sync c.queue sound p k does)
+    by-doing (doing.Leaving k) does = drawn-low k (leaving-below sync c.queue sound p k does)
+    by-doing (doing.Watching k) does = reached-low k (watched-below sync c.queue sound p k does)
+    by-doing (doing.Decided k on) does = drawn-low k (decided-below sync c.queue sound p k on does)
+    by-doing (doing.Ticket k) does = reached-low k (ticket-reached sync c.queue sound p k does)
     by-doing doing.Idle own = some-cell
     by-doing (doing.TryAt v) own = some-cell
     by-doing doing.Door own = some-cell

@@ -152,6 +152,9 @@ module _ {E S : Type 0} (object : Object E) (primitive : Primitive E S) (passes 
       let final : (j : ℕ) → r.settled j ≡ true → IsFinal (IsSmart primitive.manner.leaving) d.queue j = λ j is.
       let i = r.finals j is in record {
         final = i.final;
+        drawn = i.drawn;
+        come = i.come;
+        unwatched = i.unwatched;
         unwaited = λ n w. i.unwaited n (record {
           cell = w.cell;
           there = w.there;
@@ -171,7 +174,7 @@ module _ {E S : Type 0} (object : Object E) (primitive : Primitive E S) (passes 
         drawn = w.drawn;
         uncollected = w.uncollected;
         installed = w.installed;
-      }) o) in
+      }) (λ none. none) (λ come. come) o) in
       let t = steps object primitive passes limit client s r id me 16 n d []
       (facts_counted me.0.limit n f) here one
       (still s r me.0 16 d (facts_counted me.0.limit n f)

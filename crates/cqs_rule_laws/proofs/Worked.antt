@@ -4,14 +4,14 @@ use Rattle.std.proofs.Common.{◌≡◌, ◌≢◌, ℕ, ◌<◌, ◌^◌, Bool,
 use Rattle.std.proofs.lemmas.Option.{same_Some}
 use Rattle.cqs_core.specs.declared.cells.CoreCell.{CoreCell}
 use Rattle.cqs_core.specs.declared.cells.CoreState.{CoreState}
-use Rattle.cqs_core.specs.declared.doings.Doing.TheVariants as doing
 use Rattle.cqs_core.specs.QueueCells.{rank, IsInstalled, IsBare}
-use Rattle.cqs_core.specs.QueueSound.{IsSound}
+use Rattle.cqs_core.specs.QueueEither.{IsSoundEither}
 use Rattle.cqs_core.specs.QueueStages as stage
 use Rattle.cqs_core.specs.QueueStages.{Stage, doing_at}
 use Rattle.cqs_core.specs.QueueSteps.{CellRow, at_cell, WaitChange, wait_stays, wait_opens, wait_closes, Gain, nothing, its_own, a_debt, cell_after, payloads_after, IsOpenRow}
 use Rattle.cqs_core.proofs.Places.{get-set_here, get-set_else}
-use Rattle.cqs_core.proofs.QueueUniform.{IsCellRow, IsTurn, turns, TellsWait, IsOwnChange, HasWait, GoesOn as RowGoesOn}
+use Rattle.cqs_core.proofs.EitherCells.{turns, ticket-reached}
+use Rattle.cqs_core.proofs.QueueUniform.{IsCellRow, IsTurn, TellsWait, IsOwnChange, HasWait, GoesOn as RowGoesOn}
 use Rattle.cqs_rule_laws.specs.declared.view.Facts.{Facts}
 use Rattle.cqs_rule_laws.specs.declared.view.Has.{Has}
 use Rattle.cqs_rule_laws.specs.Facts.{facts_worked, reached_with, passed_from, waits_then}
@@ -49,9 +49,10 @@ pub left-fits : (b : Bool) (payload there : ℕ) → payload < 2 ^ 20 → there 
 left-fits true payload there p q = p
 left-fits false payload there p q = q
 
-module _ (gains : Gains) (c : Hidden) (p k : ℕ) (row : CellRow) (found : CoreCell) (has : Has) (payload : ℕ)
+module _ {sync : Bool} (gains : Gains) (c : Hidden) (p k : ℕ) (row : CellRow) (found : CoreCell) (has : Has)
+    (payload : ℕ)
     (is : IsCellRow row)
-    (sound : IsSound c.queue) (opens : IsOpenRow c.queue (at_cell row) p k (Some found)) where
+    (sound : IsSoundEither sync c.queue) (opens : IsOpenRow c.queue (at_cell row) p k (Some found)) where
   abbrev pub d : Hidden
   d = happened_by gains c (at_cell row) p k (Some found) has payload
 
@@ -59,7 +60,7 @@ module _ (gains : Gains) (c : Hidden) (p k : ℕ) (row : CellRow) (found : CoreC
   after = cell_after row found
 
   turn : IsTurn c.queue p k row found
-  turn = turns c.queue p k row found is sound opens
+  turn = turns sync c.queue sound p k row found is opens
 
   cell-here : slice_get d.queue.cells k ≡ Some after
   cell-here = get-set_here c.queue.cells k found after opens.0.finds
@@ -188,23 +189,23 @@ module _ (gains : Gains) (c : Hidden) (p k : ℕ) (row : CellRow) (found : CoreC
     cell = found;
     there = opens.0.finds;
     owner = owner;
-    drawn = installed-drawn c.queue k found found.state (sound.cells.at k found opens.0.finds) h.installed;
+    drawn = installed-drawn c.queue sound k found found.state opens.0.finds refl h.installed;
     uncollected = h.uncollected;
     installed = h.installed;
   }
 
-  make-after : (n : ℕ) → IsSound d.queue → HasWait after → found.owner ≡ Some n → IsWaitOf d.queue n k
+  make-after : (n : ℕ) → IsSoundEither sync d.queue → HasWait after → found.owner ≡ Some n → IsWaitOf d.queue n k
   make-after n safe h owner = record {
     cell = after;
     there = cell-here;
     owner = owner;
-    drawn = installed-drawn d.queue k after after.state (safe.cells.at k after cell-here) h.installed;
+    drawn = installed-drawn d.queue safe k after after.state cell-here refl h.installed;
     uncollected = h.uncollected;
     installed = h.installed;
   }
 
   -- the waits of another pass stay
-  other-kept : (n j : ℕ) → n ≢ p → IsSound d.queue → IsWaitOf c.queue n j → IsWaitOf d.queue n j
+  other-kept : (n j : ℕ) → n ≢ p → IsSoundEither sync d.queue → IsWaitOf c.queue n j → IsWaitOf d.queue n j
   other-kept n j apart safe w = ⊎_elim
       (λ (q : j ≡ k). subst (IsWaitOf d.queue n) (sym q) (here (subst (IsWaitOf c.queue n) q w)))
       (λ (a : j ≢ k). wait-else n j a w)
@@ -234,7 +235,7 @@ module _ (gains : Gains) (c : Hidden) (p k : ℕ) (row : CellRow) (found : CoreC
       here : IsWaitOf d.queue n k → IsWaitOf c.queue n k
       here w = by row.wait turn.wait is.own_change w
 
-  pub others-worked : IsSound d.queue → OthersStay c d p
+  pub others-worked : IsSoundEither sync d.queue → OthersStay c d p
   others-worked safe = record {
     doing = λ n apart. same-doing n apart;
     waits = λ n j apart w. other-back n j apart w;
@@ -255,7 +256,8 @@ module _ (gains : Gains) (c : Hidden) (p k : ℕ) (row : CellRow) (found : CoreC
 
   -- THE PASS ITSELF.
 
-  own-waits : (f : Facts) → Stands c p f → IsSound d.queue → (j : ℕ) → lists.Has j (waits_then row.wait k f.waits)
+  own-waits : (f : Facts) → Stands c p f → IsSoundEither sync d.queue → (j : ℕ)
+      → lists.Has j (waits_then row.wait k f.waits)
       → IsWaitOf d.queue p j
   own-waits f at safe = by row.wait turn.wait is.own_change
     where
@@ -299,29 +301,30 @@ module _ (gains : Gains) (c : Hidden) (p k : ℕ) (row : CellRow) (found : CoreC
   -- a wait is opened where the cell wasn't final
   pub waits-final : (f : Facts) (j : ℕ) → rank (state_at c.queue j) ≡ 4
       → lists.Has j (waits_then row.wait k f.waits) → lists.Has j f.waits
-  waits-final f j high = by row.wait turn.wait
+  waits-final f j high = by row.wait turn.wait is.own_change
     where
       high-here : j ≡ k → rank row.finds ≡ 4
       high-here q = sym (ap rank (ap state_in opens.0.finds ∙ opens.0.at)) ∙ (ap (λ z. rank (state_at c.queue z))
           (sym q) ∙ high)
 
       opened : (m : Option CoreState) → row.makes ≡ m → RowGoesOn row.finds m row.brings
-          → (HasWait found → ⊥) → HasWait after → j ≡ k → ⊥
-      opened (Some s) e goes none now q =
+          → IsOwnChange wait_opens row.works_at → (HasWait found → ⊥) → HasWait after → j ≡ k → ⊥
+      opened (Some s) e goes own none now q =
           let most = rank-most s in let h = high-here q in let g = goes.0 in omega arith
-      opened None e goes none now q =
+      opened None e goes own none now q =
           let same : after.state ≡ found.state = ap
           (λ (z : Option CoreState). Rattle.cqs_core.specs.QueueSteps.state_made z found.state) e in
-          none (record { installed = subst IsInstalled same now.installed; uncollected = turn.uncollected })
+          none (record { installed = subst IsInstalled same now.installed; uncollected = turn.uncollected own })
 
-      by : (change : WaitChange) → TellsWait change found after → lists.Has j (waits_then change k f.waits)
+      by : (change : WaitChange) → TellsWait change found after → IsOwnChange change row.works_at
+          → lists.Has j (waits_then change k f.waits)
           → lists.Has j f.waits
-      by wait_stays tells h = h
-      by wait_opens tells h = ⊎_elim (λ old. old)
+      by wait_stays tells own h = h
+      by wait_opens tells own h = ⊎_elim (λ old. old)
           (λ (new : lists.Has j (k ∷ [])). ⊎_elim
-          (λ (q : j ≡ k). absurd (opened row.makes refl is.goes_on tells.0 tells.1 q)) (λ z. absurd z) new)
+          (λ (q : j ≡ k). absurd (opened row.makes refl is.goes_on own tells.0 tells.1 q)) (λ z. absurd z) new)
           (has_append j f.waits (k ∷ []) h)
-      by wait_closes tells h = (has_without j k f.waits h).1
+      by wait_closes tells own h = (has_without j k f.waits h).1
 
   own-once : (f : Facts) → Stands c p f → IsDistinct (waits_then row.wait k f.waits)
   own-once f at = by row.wait turn.wait
@@ -342,23 +345,25 @@ module _ (gains : Gains) (c : Hidden) (p k : ℕ) (row : CellRow) (found : CoreC
   own-passed f at stage.ticket stage.owes does j h = ⊎_elim
       (λ (old : lists.Has j f.passed). at.behind.passed j old)
       (λ (new : lists.Has j (k ∷ [])). ⊎_elim
-      (λ (e : j ≡ k). subst (λ z. z < c.queue.resumes) (sym e) (sound.passes.at p (doing.Ticket k) does).reached)
+      (λ (e : j ≡ k). subst (λ z. z < c.queue.resumes) (sym e) (ticket-reached sync c.queue sound p k does))
       (λ z. absurd z) new)
       (has_append j f.passed (k ∷ []) h)
   own-passed f at stage.ticket stage.idle does j h = at.behind.passed j h
   own-passed f at stage.ticket stage.door does j h = at.behind.passed j h
   own-passed f at stage.ticket stage.drawn does j h = at.behind.passed j h
   own-passed f at stage.ticket stage.ticket does j h = at.behind.passed j h
+  own-passed f at stage.ticket stage.watching does j h = at.behind.passed j h
   own-passed f at stage.ticket stage.leaving does j h = at.behind.passed j h
   own-passed f at stage.ticket (stage.decided on) does j h = at.behind.passed j h
   own-passed f at stage.idle to does j h = at.behind.passed j h
   own-passed f at stage.door to does j h = at.behind.passed j h
   own-passed f at stage.owes to does j h = at.behind.passed j h
+  own-passed f at stage.watching to does j h = at.behind.passed j h
   own-passed f at stage.drawn to does j h = at.behind.passed j h
   own-passed f at stage.leaving to does j h = at.behind.passed j h
   own-passed f at (stage.decided on) to does j h = at.behind.passed j h
 
-  pub worked-self : (n : ℕ) (f : Facts) → f.has ≡ has → Stands c p f → IsSound d.queue
+  pub worked-self : (n : ℕ) (f : Facts) → f.has ≡ has → Stands c p f → IsSoundEither sync d.queue
       → Stands d p (facts_worked gains row k n payload f)
   worked-self n f same at safe = record {
     doing = get-set_here c.queue.doing p f.doing (doing_at row.goes_to k) at.doing;

@@ -4,7 +4,7 @@ use Rattle.std.specs.Prelude.{◌≡◌, ◌≢◌, ◌⊎◌, ℕ, ◌+◌, ◌
 use Rattle.cqs_core.specs.declared.cells.CoreCell.{CoreCell}
 use Rattle.cqs_core.specs.declared.doings.Doing.TheVariants as doing
 use Rattle.cqs_core.specs.QueueLine.{door}
-use Rattle.cqs_core.specs.QueueSound.{IsSound}
+use Rattle.cqs_core.specs.QueueEither.{IsSoundEither}
 use Rattle.cqs_core.specs.QueueSteps.{QueueStep, reaches, passes_over, begins, puts, row_of, StepRow, at_counter, at_cell, Cost, no_cost, one_owed, one_element, payload_told, IsOpenStep}
 use Rattle.cqs_rule_laws.specs.declared.view.Has.{Has}
 use Rattle.cqs_rule_laws.specs.Hidden.{Hidden, hidden_after, has_after, now_may_draw, has_both, has_none, hands_over}
@@ -94,6 +94,8 @@ module _ {E S : Type 0} (object : Object E) (primitive : Primitive E S) where
   pub record IsClient : Type 0 where
     -- its object opens in the mode in which its waits leave
     pub mode : primitive.opening.mode ≡ mode_for primitive.manner.leaving
+    -- and it is synchronous where its resumes watch
+    pub sync : primitive.opening.sync ≡ primitive.manner.watches
     -- its words as they open go with a queue as it opens
     pub begins : (passes : ℕ) → 0 < passes → passes ≤ 32
         → primitive.shows (first_hidden passes primitive.values primitive.held)
@@ -140,7 +142,7 @@ module _ {E S : Type 0} (object : Object E) (primitive : Primitive E S) where
     -- the queue part is sound, and the history legal
     pub sound : (c : Hidden) (words : List ℕ) (log : List E) (handed : List (ℕ × S))
         → primitive.shows c words log handed
-        → IsSound c.queue
+        → IsSoundEither primitive.manner.watches c.queue
     pub legal_shown : (c : Hidden) (words : List ℕ) (log : List E) (handed : List (ℕ × S))
         → primitive.shows c words log handed → object.legal primitive.opening log
     -- what a pass holds fits 32 bits

@@ -19,6 +19,7 @@ HasSeenRoom stage.idle facts = facts.may_draw ≡ true
 HasSeenRoom stage.owes facts = facts.may_draw ≡ true
 HasSeenRoom stage.drawn facts = facts.may_draw ≡ true
 HasSeenRoom stage.ticket facts = facts.may_draw ≡ true
+HasSeenRoom stage.watching facts = facts.may_draw ≡ true
 HasSeenRoom stage.leaving facts = facts.may_draw ≡ true
 HasSeenRoom (stage.decided on) facts = facts.may_draw ≡ true
 

@@ -138,6 +138,22 @@ SlotsStay {E} {S} primitive slots event made v =
     → primitive.opens v.facts.has k
     → primitive.opens (has_then event (moment primitive.opening v.number v.facts made n)) k
 
+-- a pass is at no number that it is to suspend at, and watches none
+abbrev pub IsAway : Doing → Type 0
+IsAway (doing.Drawn k) = ⊥
+IsAway (doing.Watching k) = ⊥
+IsAway doing.Idle = Unit {0}
+IsAway (doing.TryAt v) = Unit {0}
+IsAway doing.Door = Unit {0}
+IsAway doing.Owes = Unit {0}
+IsAway (doing.Ticket k) = Unit {0}
+IsAway (doing.Leaving k) = Unit {0}
+IsAway (doing.Decided k on) = Unit {0}
+
+-- a pass goes on with what it does, or is at no such number before and after
+abbrev pub StaysAway : Doing → Doing → Type 0
+StaysAway from to = (to ≡ from) ⊎ (IsAway from × IsAway to)
+
 -- What a client owes for a step on its word i, by which n becomes f n: wherever the pass is at
 -- these facts, the client's words, the entries and the pass's next facts go together again. What is
 -- owed stays, and a step without an event leaves all that the pass has, and whether it owes. A step
@@ -160,6 +176,8 @@ pub record Moves {E S : Type 0} (object : Object E) (primitive : Primitive E S) 
       → (facts.doing ≡ doing.Door) ⊎ (facts.may_draw ≡ true)
   pub ticket : (n k : ℕ) → event.doing (moment primitive.opening p facts made n) ≡ doing.Ticket k
       → facts.doing ≡ doing.Ticket k
+  pub away : (n : ℕ)
+      → StaysAway facts.doing (event.doing (moment primitive.opening p facts made n))
   pub owed : (n : ℕ) → is_owing facts.doing ≡ true
       → event.payload (moment primitive.opening p facts made n) ≡ facts.has.payload
   pub keeps : (n : ℕ) → event.entries (moment primitive.opening p facts made n) ≡ []

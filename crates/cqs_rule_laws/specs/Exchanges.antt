@@ -29,8 +29,20 @@ IsOwnWait stage.door k facts = Unit {0}
 IsOwnWait stage.owes k facts = Unit {0}
 IsOwnWait stage.drawn k facts = Unit {0}
 IsOwnWait stage.ticket k facts = Unit {0}
+IsOwnWait stage.watching k facts = Unit {0}
 IsOwnWait stage.leaving k facts = Unit {0}
 IsOwnWait (stage.decided on) k facts = Unit {0}
+
+-- A pass that watches may break the cell once it found its value there as often as it was to.
+abbrev pub HasLooked : {E S : Type 0} → Stage → View E S → Type 0
+HasLooked stage.watching v = v.facts.looked ≡ v.opening.looks
+HasLooked stage.idle v = Unit {0}
+HasLooked stage.door v = Unit {0}
+HasLooked stage.owes v = Unit {0}
+HasLooked stage.drawn v = Unit {0}
+HasLooked stage.ticket v = Unit {0}
+HasLooked stage.leaving v = Unit {0}
+HasLooked (stage.decided on) v = Unit {0}
 
 -- what an exchange leaves in the cell: what the pass brings, or what was there
 abbrev pub payload_left : Bool → ℕ → ℕ → ℕ
@@ -42,6 +54,7 @@ pub record Exchanges {E S : Type 0} (row : CellRow) (v : View E S) (k word expec
     : Type 0 where
   pub works : v.facts.doing ≡ doing_at row.works_at k
   pub own : IsOwnWait row.works_at k v.facts
+  pub looked : HasLooked row.works_at v
   pub place : KnowsPlace v (place_at word k)
   pub payload : ℕ
   pub payload_fits : payload < 2 ^ 20
@@ -98,7 +111,7 @@ module _ {C E S : Type 0} (object : Object E) (primitive : C → Primitive E S) 
     pub found : Glimpse
     pub number : found.number ≡ k
     pub cell : FoundCell n found
-    pub may : MayFind row.works_at found.state
+    pub may : MayFind v.opening.sync row.works_at found.state
     pub since : SinceLast found v.facts.last
     pub come : TellsCome v k found.state
     pub entries : List E

@@ -1,5 +1,5 @@
 -- What a pass is at after a step of its own, by what it was at.
-use Rattle.std.specs.Prelude.{ℕ, Bool, true, false, List, [], ◌∷◌, ◌++◌, nat_lt, Some, None, if◌then◌else◌, ◌<◌, ◌≤◌}
+use Rattle.std.specs.Prelude.{ℕ, ◌+◌, Bool, true, false, List, [], ◌∷◌, ◌++◌, nat_lt, Some, None, if◌then◌else◌, ◌<◌, ◌≤◌}
 use Rattle.cqs_core.specs.declared.doings.Doing.{Doing}
 use Rattle.cqs_core.specs.declared.doings.Doing.TheVariants as doing
 use Rattle.cqs_core.specs.QueueStages as stage
@@ -58,14 +58,38 @@ passed_from stage.ticket stage.idle k passed = passed
 passed_from stage.ticket stage.door k passed = passed
 passed_from stage.ticket stage.drawn k passed = passed
 passed_from stage.ticket stage.ticket k passed = passed
+passed_from stage.ticket stage.watching k passed = passed
 passed_from stage.ticket stage.leaving k passed = passed
 passed_from stage.ticket (stage.decided on) k passed = passed
 passed_from stage.idle to k passed = passed
 passed_from stage.door to k passed = passed
 passed_from stage.owes to k passed = passed
 passed_from stage.drawn to k passed = passed
+passed_from stage.watching to k passed = passed
 passed_from stage.leaving to k passed = passed
 passed_from (stage.decided on) to k passed = passed
+
+-- How often the pass found the value there that it left last and watches: not yet where it leaves
+-- it, and once more where it finds it.
+abbrev pub looked_again : Stage → ℕ → ℕ
+looked_again stage.watching looked = looked + 1
+looked_again stage.idle looked = 0
+looked_again stage.door looked = 0
+looked_again stage.owes looked = 0
+looked_again stage.drawn looked = 0
+looked_again stage.ticket looked = 0
+looked_again stage.leaving looked = 0
+looked_again (stage.decided on) looked = 0
+
+abbrev pub looked_then : Stage → Stage → ℕ → ℕ
+looked_then from stage.watching looked = looked_again from looked
+looked_then from stage.idle looked = looked
+looked_then from stage.door looked = looked
+looked_then from stage.owes looked = looked
+looked_then from stage.drawn looked = looked
+looked_then from stage.ticket looked = looked
+looked_then from stage.leaving looked = looked
+looked_then from (stage.decided on) looked = looked
 
 -- The number n comes after those that the pass drew to resume at and passed over, and not before
 -- the last one that it drew for the resumption which it owes.
@@ -98,6 +122,7 @@ facts_worked gains row k n payload f = record f {
   last = None;
   waits = waits_then row.wait k f.waits;
   reached = reached_with row.gain f.reached;
+  looked = looked_then row.works_at row.goes_to f.looked;
   passed = passed_from row.works_at row.goes_to k f.passed;
   duties = duties_then (settles_row row) k f.duties;
   found = f.found ++ Cell k n ∷ [];

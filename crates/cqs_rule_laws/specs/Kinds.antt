@@ -48,6 +48,7 @@ owes_at_stage stage.door = false
 owes_at_stage stage.owes = true
 owes_at_stage stage.drawn = false
 owes_at_stage stage.ticket = true
+owes_at_stage stage.watching = true
 owes_at_stage stage.leaving = true
 owes_at_stage (stage.decided on) = true
 

@@ -1,5 +1,5 @@
 -- How the passes of a client use the queue: which of its steps they make.
-use Rattle.std.specs.Prelude.{◌≡◌, Bool, false}
+use Rattle.std.specs.Prelude.{◌≡◌, Bool, true, false}
 use Rattle.cqs_rule_laws.specs.declared.config.CancelMode.{CancelMode}
 use Rattle.cqs_rule_laws.specs.declared.config.CancelMode.TheVariants.{Smart, Simple}
 use Rattle.cqs_core.specs.QueueSteps as maker
@@ -24,6 +24,8 @@ pub record Manner : Type 0 where
   -- a pass draws from the door, or as it is idle
   pub has_door : Bool
   pub source : Source
+  -- its resumes watch the values that they leave
+  pub watches : Bool
 
 -- a wait leaves by asking its client
 abbrev pub Asks : Leaving → Type 0
@@ -73,6 +75,9 @@ IsOneOf m maker.in_smart_mode = IsSmart m.leaving
 IsOneOf m maker.who_ask = Asks m.leaving
 IsOneOf m maker.who_pass_on = PassesOn m.leaving
 IsOneOf m maker.who_leave_at_once = IsAtOnce m.leaving
+IsOneOf m maker.who_leave = m.watches ≡ false
+IsOneOf m maker.who_delegate = IsSmart m.leaving × (m.watches ≡ false)
+IsOneOf m maker.who_watch = m.watches ≡ true
 
 -- the steps that a client of this manner makes
 abbrev pub Suits : Manner → QueueStep → Type 0

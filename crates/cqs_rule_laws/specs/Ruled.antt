@@ -109,25 +109,39 @@ pub record IsWaitOf (q : Queue) (p k : ℕ) : Type 0 where
   pub uncollected : cell.collected ≡ false
   pub installed : IsInstalled cell.state
 
--- What is so of a settled cell: it is final, nobody waits there, and only a resume that passes over
--- it has its ticket still, or may yet draw one; this by whether resumes of the client do.
+-- What is so of a settled cell: it is final, its suspend has come, nobody waits there, nobody
+-- watches it, and only a resume that passes over it has its ticket still, or may yet draw one; this
+-- by whether resumes of the client do.
 pub record IsFinal (passes_on : Type 0) (q : Queue) (k : ℕ) : Type 0 where
   pub final : rank (state_at q k) ≡ 4
+  pub drawn : k < q.suspends
+  pub come : (p : ℕ) → slice_get q.doing p ≡ Some (doing.Drawn k) → ⊥
+  pub unwatched : (p : ℕ) → slice_get q.doing p ≡ Some (doing.Watching k) → ⊥
   pub unwaited : (p : ℕ) → IsWaitOf q p k → ⊥
   pub met : (p : ℕ) → slice_get q.doing p ≡ Some (doing.Ticket k) → (state_at q k ≡ state.Cancelled)
       × passes_on
   pub reached : (k < q.resumes) ⊎ ((state_at q k ≡ state.Cancelled) × passes_on)
 
--- The cell in this state is over: its value was taken, or nobody waits there any more who was
--- served, or its wait has left and resumes of the client pass on.
+-- no pass watches the number
+abbrev pub IsUnwatched : Queue → ℕ → Type 0
+IsUnwatched q k = (p : ℕ) → slice_get q.doing p ≡ Some (doing.Watching k) → ⊥
+
+-- the number was drawn to suspend at, and its pass has come to the cell
+abbrev pub HasSuspended : Queue → ℕ → Type 0
+HasSuspended q k = (k < q.suspends)
+    × ((p : ℕ) → slice_get q.doing p ≡ Some (doing.Drawn k) → ⊥)
+
+-- The cell in this state is over: its value was taken, and nobody watches it; or its suspend found
+-- it broken; or nobody waits there any more who was served, or its wait has left and resumes of the
+-- client pass on.
 abbrev pub IsOverAt : Type 0 → Queue → ℕ → CoreState → Type 0
-IsOverAt passes_on q k state.Taken = Unit {0}
+IsOverAt passes_on q k state.Taken = IsUnwatched q k
 IsOverAt passes_on q k state.Resumed = (p : ℕ) → IsWaitOf q p k → ⊥
 IsOverAt passes_on q k state.Cancelled = passes_on
 IsOverAt passes_on q k state.Empty = ⊥
 IsOverAt passes_on q k state.Waiter = ⊥
 IsOverAt passes_on q k state.Value = ⊥
-IsOverAt passes_on q k state.Broken = ⊥
+IsOverAt passes_on q k state.Broken = HasSuspended q k
 IsOverAt passes_on q k state.Cancelling = ⊥
 IsOverAt passes_on q k state.Delegated = ⊥
 IsOverAt passes_on q k state.Refused = ⊥

@@ -30,6 +30,7 @@ first_facts held = record {
   last = None;
   waits = [];
   reached = 0;
+  looked = 0;
   passed = [];
   open_slot = None;
   spare_slots = [];
@@ -143,7 +144,9 @@ module _ {E S : Type 0} where
 
   -- what is left of the view of a pass that was joined away
   abbrev pub spent : View E S
-  spent = record (first_view 0 0 0 0 0 (record { size = 0; mode = Smart }) 0)
+  spent = record (
+      first_view 0 0 0 0 0 (record { size = 0; mode = Smart; sync = false; looks = 0 }) 0
+      )
       { weight = 0; own = []; alone = false; segments = none_seen }
 
   -- a note of what the pass has seen, which nobody stands behind

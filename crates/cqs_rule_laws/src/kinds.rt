@@ -130,6 +130,48 @@ impl Kind for Leaves {
     }
 }
 
+/// An empty cell gets the value of a resume, which watches it.
+pub struct LeavesWatched;
+
+impl Kind for LeavesWatched {
+    ghost step = { steps.in_sync steps.leaves_watched };
+
+    fn change() -> Change {
+        Change {
+            owes: true,
+            ..STAYS
+        }
+    }
+}
+
+/// A suspend takes the value that a resume left and watches.
+pub struct TakesWatched;
+
+impl Kind for TakesWatched {
+    ghost step = { steps.in_sync steps.takes_watched };
+
+    fn change() -> Change {
+        Change {
+            gains: true,
+            ..STAYS
+        }
+    }
+}
+
+/// A resume takes the value back that it watched, and breaks the cell.
+pub struct Breaks;
+
+impl Kind for Breaks {
+    ghost step = { steps.in_sync steps.breaks };
+
+    fn change() -> Change {
+        Change {
+            gains: true,
+            ..STAYS
+        }
+    }
+}
+
 /// A resume leaves its value to the canceller of the wait.
 pub struct Delegates;
 

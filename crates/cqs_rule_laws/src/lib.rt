@@ -34,14 +34,15 @@ pub use change::{Change, Waits};
 pub use client::{ClientWords, Shown};
 pub use config::{AcquireError, CancelMode, Config, Crowd, Crowded, MakeError, MeetError, Place};
 pub use kinds::{
-    Begins, Delegates, Draws, Enters, Installs, Kind, Leaves, LeavesAtOnce, LeavesLine, Reaches,
-    Refuses, RefusesValue, Serves, Settles, SettlesOwing, StartsLeaving, Takes,
+    Begins, Breaks, Delegates, Draws, Enters, Installs, Kind, Leaves, LeavesAtOnce, LeavesLine,
+    LeavesWatched, Reaches, Refuses, RefusesValue, Serves, Settles, SettlesOwing, StartsLeaving,
+    Takes, TakesWatched,
 };
 pub use layout::{
     CELLS_WORD, CLIENT_WORD, CREW_WORD, RESUMES_WORD, SLOT_CELLS, SLOT_COUNT, SLOT_LINK,
     SLOT_STRIDE, SLOTS_WORD, SUSPENDS_WORD, TAIL_WORD,
 };
-pub use loads::{Cancels, Counts, Learned, Load, Meets, Misses, Polls, Watches};
+pub use loads::{Cancels, Counts, Finds, Learned, Load, Meets, Misses, Polls, Sees, Watches};
 pub use rule::{Key, Rule};
 pub use silent::Silent;
 pub use steps::{add_at, exchange_at, load_at, max_at, or_at, store_at};

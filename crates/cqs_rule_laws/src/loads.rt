@@ -9,6 +9,8 @@ ghost use Rattle.cqs_rule_laws.specs.Loads.{
   cancels,
   meets,
   misses,
+  sees,
+  finds,
   learned_of,
   served_in,
   refused_in,
@@ -25,6 +27,9 @@ pub enum Learned {
     Granted,
     /// The resumption that it owed ended at this cell.
     Ended,
+    /// It is the last at the cell of the word found: the value that it left there was taken, or it
+    /// came there to suspend and the cell is broken. It owes nothing then.
+    Settled,
 }
 
 /// What a call loads, and the event that its load names.
@@ -129,6 +134,35 @@ impl Load for Misses {
     fn learns(found: u64, _number: u64) -> Learned {
         match CellWord::unpack(found) {
             Some(cell) if cell.state == CellState::Cancelled => Learned::Ended,
+            _ => Learned::Nothing,
+        }
+    }
+}
+
+/// The cell of a value, by the resume that left it and watches it: the value is there, or was
+/// taken.
+pub struct Sees;
+
+impl Load for Sees {
+    ghost load = { sees };
+
+    fn learns(found: u64, _number: u64) -> Learned {
+        match CellWord::unpack(found) {
+            Some(cell) if cell.state == CellState::Taken => Learned::Settled,
+            _ => Learned::Nothing,
+        }
+    }
+}
+
+/// The cell of a number, by its suspend: it may be broken.
+pub struct Finds;
+
+impl Load for Finds {
+    ghost load = { finds };
+
+    fn learns(found: u64, _number: u64) -> Learned {
+        match CellWord::unpack(found) {
+            Some(cell) if cell.state == CellState::Broken => Learned::Settled,
             _ => Learned::Nothing,
         }
     }

@@ -56,8 +56,9 @@ fn waits_after(change: Change, waits: u32) -> u32
 
 impl<C: ClientWords> Queue<C> {
     /// Loads the suspend counter or a cell. A pass that finds the counter below the limit may draw,
-    /// the owner of a wait learns in its cell what became of it, and a resume meets the cell of its
-    /// number. A cell that is settled by that is counted.
+    /// the owner of a wait learns in its cell what became of it, a resume meets the cell of its
+    /// number, or sees what became of the value that it left there, and a suspend finds its cell
+    /// broken. A cell that is settled by that is counted.
     #[inline(always)]
     pub fn load_table<L: Load>(&self, pass: &mut Pass<C>, word: u32) -> u64
         requires belongs { IsOf self.now pass.old }
@@ -77,6 +78,10 @@ impl<C: ClientWords> Queue<C> {
             Learned::Ended => {
                 pass.owes = false;
                 self.count_cell(&mut pass.seat, word, pass.ticket);
+            }
+            Learned::Settled => {
+                pass.owes = false;
+                self.count_cell(&mut pass.seat, word, CellWord::index_in(found));
             }
         }
         found

@@ -1,7 +1,7 @@
 use Rattle.std.proofs.Common.{rules, refl, ◌≡◌, ◌/◌, ◌<◌, ◌∙◌, [], ◌∷◌, ap, sym, subst, length, arith}
 use Rattle.cqs_rule_laws.specs.Layout.{words_for}
 use Rattle.cqs_rule_laws.specs.Placed.{KnowsPlace, place_at}
-use Rattle.cqs_rule_laws.specs.declared.loads.Learned.TheVariants.{Nothing, Granted, Ended}
+use Rattle.cqs_rule_laws.specs.declared.loads.Learned.TheVariants.{Nothing, Granted, Ended, Settled}
 use Rattle.cqs_rule_laws.specs.Loads.{CarriesLearned}
 use Rattle.cqs_rule_laws.proofs.CellLoads.{loads, load-low, learns-at}
 use Rattle.cqs_rule.proofs.Counting.{belongs-counted, counted-none, keeps-counted, loaded-leaves, loaded-retires, told-loaded}
@@ -244,6 +244,87 @@ count_cell-requires-clause-none g c =
 
 pub count_cell-requires-in-Ended-clause-none : goal.count_cell-requires-in-Ended-clause-none
 count_cell-requires-in-Ended-clause-none g c =
+    let C = g.C.ClientWords in
+    let p = c.args.pass.now in
+    loaded-retires C.object C.primitive g.L.Load.load c.args.word c.load_at-found.result p.seat.me.0
+    c.load_at-found.new.seat.me.0 c.load_at-found.ensures.told.0 c.requires.load ∙ p.retired
+
+pub count_cell-requires-in-Settled-clause-place : goal.count_cell-requires-in-Settled-clause-place
+count_cell-requires-in-Settled-clause-place g c =
+    let C = g.C.ClientWords in
+    let p = c.args.pass.now in
+    let e = c.load_at-found.ensures in
+    let u = c.load_at-found.new.seat.me.0 in
+    let is = sym (c.learns.ensures ∙ learns-at g.L.Load.load p.seat.me.0 c.args.word p.ticket c.load_at-found.result
+    c.requires.load p.ticket_is) ∙ c.in-Settled.is in
+    let carries = subst (λ z. CarriesLearned C.object.gains.held z p.seat.me.0.facts u.facts) is e.told.3 in
+    let leaves = loaded-leaves C.object C.primitive g.L.Load.load Settled c.args.word c.load_at-found.result p.ticket
+    p.seat.me.0 u e.told.0 c.requires.load p.counted p.ticket_is (sym is) carries in
+    subst (λ k. KnowsPlace u (place_at c.args.word k)) (sym c.index_in-in-Settled.ensures) leaves.place
+
+pub count_cell-requires-in-Settled-clause-one : goal.count_cell-requires-in-Settled-clause-one
+count_cell-requires-in-Settled-clause-one g c =
+    let C = g.C.ClientWords in
+    let p = c.args.pass.now in
+    let e = c.load_at-found.ensures in
+    let u = c.load_at-found.new.seat.me.0 in
+    let is = sym (c.learns.ensures ∙ learns-at g.L.Load.load p.seat.me.0 c.args.word p.ticket c.load_at-found.result
+    c.requires.load p.ticket_is) ∙ c.in-Settled.is in
+    let carries = subst (λ z. CarriesLearned C.object.gains.held z p.seat.me.0.facts u.facts) is e.told.3 in
+    let leaves = loaded-leaves C.object C.primitive g.L.Load.load Settled c.args.word c.load_at-found.result p.ticket
+    p.seat.me.0 u e.told.0 c.requires.load p.counted p.ticket_is (sym is) carries in
+    subst (λ k. u.facts.duties ≡ (k / 32) ∷ []) (sym c.index_in-in-Settled.ensures) leaves.one
+
+pub invariant_of-pass-in-Settled : goal.invariant_of-pass-in-Settled
+invariant_of-pass-in-Settled g c =
+    let C = g.C.ClientWords in
+    let p = c.args.pass.now in
+    let e = c.load_at-found.ensures in
+    let u = c.load_at-found.new.seat.me.0 in
+    let is = sym (c.learns.ensures ∙ learns-at g.L.Load.load p.seat.me.0 c.args.word p.ticket c.load_at-found.result
+    c.requires.load p.ticket_is) ∙ c.in-Settled.is in
+    let carries = subst (λ z. CarriesLearned C.object.gains.held z p.seat.me.0.facts u.facts) is e.told.3 in
+    let same = e.told.4 in
+    let waits = carries.waits in
+    let was = p.waits_are in
+    let done = c.count_cell-in-Settled.ensures in
+    let seat = c.count_cell-in-Settled.new.seat in
+    keeps-counted u seat.me.0 c.load_at-found.new.seat.me.1 seat.me.1 seat.table_id.words _ _ _ _ _ _ p.spares
+    p.homes (record {
+      live = (same.weight ∙ p.live.0, ap length e.told.1 ∙ p.live.1);
+      number_is = same.number ∙ p.number_is;
+      held_is = carries.held ∙ p.held_is;
+      further_is = carries.further ∙ p.further_is;
+      spares_are = same-spares _ _ _ _ p.spares carries.spares same.slots p.spares_are;
+      homes_are = same-homes _ _ same p.homes p.homes_are;
+      retired = loaded-retires C.object C.primitive g.L.Load.load c.args.word c.load_at-found.result p.seat.me.0 u
+          e.told.0 c.requires.load ∙ p.retired;
+      shut = carries.open_slot ∙ p.shut;
+      owes_is = carries.owes;
+      waits_are = omega arith;
+      ticket_is = λ k t. p.ticket_is k (carries.ticket k t);
+      slots_are = ap words_for same.slots ∙ (p.slots_are ∙ ap (λ t. t.words) (sym (done.table ∙ e.table)));
+      inside = e.told.2.inside;
+      few_cells = subst (λ n. n < 137438953472) (sym same.cells) p.few_cells;
+    }) done.counted done.bare
+
+pub returns-in-Settled-clause-belongs : goal.returns-in-Settled-clause-belongs
+returns-in-Settled-clause-belongs g c =
+    let e = c.load_at-found.ensures in
+    let done = c.count_cell-in-Settled.ensures in
+    belongs-counted c.args.self.now c.args.pass.now _ c.load_at-found.new.seat.me.0 c.requires.belongs e.told.4 e.told.2
+    e.alone done.counted (done.table ∙ e.table)
+
+pub returns-in-Settled-clause-saw : goal.returns-in-Settled-clause-saw
+returns-in-Settled-clause-saw g c =
+    let C = g.C.ClientWords in
+    let p = c.args.pass.now in
+    told-loaded C.object C.primitive g.L.Load.load c.args.word c.load_at-found.result p.seat.me.0
+    c.load_at-found.new.seat.me.0 c.count_cell-in-Settled.new.seat.me.0 p.counted c.load_at-found.ensures.told.0
+    c.count_cell-in-Settled.ensures.counted
+
+pub count_cell-requires-in-Settled-clause-none : goal.count_cell-requires-in-Settled-clause-none
+count_cell-requires-in-Settled-clause-none g c =
     let C = g.C.ClientWords in
     let p = c.args.pass.now in
     loaded-retires C.object C.primitive g.L.Load.load c.args.word c.load_at-found.result p.seat.me.0

@@ -12,7 +12,7 @@ use Rattle.cqs_rule_laws.specs.declared.view.View.{View}
 use Rattle.cqs_rule_laws.specs.Exchanges.{Exchanges, MayExchange, IsCrossing}
 use Rattle.cqs_rule_laws.specs.Placed.{KnowsPlace}
 use Rattle.cqs_rule_laws.specs.Ruled.{shown_state}
-use Rattle.cqs_cell.specs.Crossings.{CrossesRow, CrossesBy, Crosses, WorksBy, OwnsBy, FindsBy, FitsBy, MakesBy, LeavesBy}
+use Rattle.cqs_cell.specs.Crossings.{CrossesRow, CrossesBy, Crosses, WorksBy, OwnsBy, LookedBy, FindsBy, FitsBy, MakesBy, LeavesBy}
 
 -- the state whose shown one is this
 made-state : (o : Option CoreState) (made : CellState) → option_map shown_state o ≡ Some made
@@ -22,16 +22,18 @@ made-state (Some s) made e = (s, (refl, same_Some _ _ e))
 
 module _ {E S : Type 0} (v : View E S) (at : Place) (found made : CellState) (payload left expected new : ℕ) where
   -- the conditions of an exchange together
-  pub crosses-by : (row : StepRow) → WorksBy row at.index v.facts → OwnsBy row at.index v.facts → KnowsPlace v at
+  pub crosses-by : (row : StepRow) → WorksBy row at.index v.facts → OwnsBy row at.index v.facts → LookedBy row v
+      → KnowsPlace v at
       → payload < 2 ^ 20 → FitsBy row payload → FindsBy row found → MakesBy row made
       → LeavesBy row v.facts payload left
       → expected ≡ cell_word at.index (state_code found) payload → new ≡ cell_word at.index (state_code made) left
       → CrossesBy row v at payload expected new
-  crosses-by (at_counter row) works own place few fits finds makes leaves expects writes = absurd works
-  crosses-by (at_cell row) works own place few fits finds makes leaves expects writes =
+  crosses-by (at_counter row) works own looked place few fits finds makes leaves expects writes = absurd works
+  crosses-by (at_cell row) works own looked place few fits finds makes leaves expects writes =
       let m = made-state row.makes made makes in record {
         works = works;
         own = own;
+        looked = looked;
         place = place;
         payload_fits = few;
         bare = fits;
@@ -53,6 +55,7 @@ module _ {E S : Type 0} (v : View E S) (at : Place) (payload expected new : ℕ)
   row-crossing row x = record {
     works = x.works;
     own = x.own;
+    looked = x.looked;
     place = x.place;
     payload = payload;
     payload_fits = x.payload_fits;

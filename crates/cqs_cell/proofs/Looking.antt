@@ -1,5 +1,5 @@
 -- A look answers the cell that it found, or what was left there for a wait that was served.
-use Rattle.std.proofs.Common.{◌≡◌, ◌≢◌, ◌⊎◌, ℕ, ◌<◌, ◌≤◌, [], length, Option, Some, None, refl, sym, ap, ◌∙◌, subst, inl, inr, ⊎_elim}
+use Rattle.std.proofs.Common.{◌≡◌, ◌≢◌, ◌⊎◌, ℕ, ◌<◌, ◌≤◌, false, [], length, Option, Some, None, refl, sym, ap, ◌∙◌, subst, inl, inr, ⊎_elim}
 use Rattle.cqs_core.specs.declared.cells.CoreState.{CoreState}
 use Rattle.cqs_core.specs.declared.cells.CoreState.TheVariants as state
 use Rattle.cqs_core.specs.QueueStages as stage
@@ -18,7 +18,7 @@ use Rattle.cqs_rule_laws.specs.declared.view.View.{View}
 use Rattle.cqs_rule_laws.specs.Facts.{facts_after}
 use Rattle.cqs_rule_laws.specs.Kinds.{change_by}
 use Rattle.cqs_rule_laws.specs.Settling.{duties_then, settles_row}
-use Rattle.cqs_rule_laws.specs.Loads.{LoadStep, counts, watches, polls, cancels, meets, misses, event_of, facts_looked, told_at, MayLook, MayLoad, Looked, Watched}
+use Rattle.cqs_rule_laws.specs.Loads.{LoadStep, counts, watches, polls, cancels, meets, misses, sees, finds, event_of, facts_looked, told_at, MayLook, MayLoad, Looked, Watched}
 use Rattle.cqs_rule_laws.specs.Object.{Object, Primitive}
 use Rattle.cqs_rule_laws.specs.Placed.{KnowsPlace}
 use Rattle.cqs_rule_laws.specs.Ruled.{shown_state}
@@ -74,6 +74,10 @@ module _ {C E S : Type 0} (object : Object E) (primitive : C → Primitive E S) 
       looked-then meets at.index n v l.0 w none (l.1 at.index place may) l.2
   looked-at misses v w at n place may none l =
       looked-then misses at.index n v l.0 w none (l.1 at.index place may) l.2
+  looked-at sees v w at n place may none l =
+      looked-then sees at.index n v l.0 w none (l.1 at.index place may) l.2
+  looked-at finds v w at n place may none l =
+      looked-then finds at.index n v l.0 w none (l.1 at.index place may) l.2
 
   -- and so does the cell that is answered
   looks-found : (load : LoadStep) (k : ℕ) (v : View E S) (n : ℕ) (w : View E S)
@@ -119,9 +123,11 @@ may-load polls v at place may = (at.index, place, may)
 may-load cancels v at place may = (at.index, place, may)
 may-load meets v at place may = (at.index, place, may)
 may-load misses v at place may = (at.index, place, may)
+may-load sees v at place may = (at.index, place, may)
+may-load finds v at place may = (at.index, place, may)
 
 -- a wait that isn't closed stands in its cell, or was served there
-pub stands-or-served : (s : CoreState) → MayFind stage.idle s
+pub stands-or-served : (s : CoreState) → MayFind false stage.idle s
     → (shown_state s ≡ shown.Waiter) ⊎ (shown_state s ≡ shown.Resumed)
 stands-or-served state.Waiter may = inl refl
 stands-or-served state.Resumed may = inr refl
@@ -134,8 +140,8 @@ stands-or-served state.Delegated may = absurd may
 stands-or-served state.Cancelled may = absurd may
 stands-or-served state.Refused may = absurd may
 
-uncancelled : (s : CoreState) → MayFind stage.idle s → s ≢ state.Cancelled
-uncancelled s may cancelled = absurd (subst (MayFind stage.idle) cancelled may)
+uncancelled : (s : CoreState) → MayFind false stage.idle s → s ≢ state.Cancelled
+uncancelled s may cancelled = absurd (subst (MayFind false stage.idle) cancelled may)
 
 -- so the one question, whether it was served, tells which of the two it is
 pub grant-in : (cell : CellWord) → (cell.state ≡ shown.Waiter) ⊎ (cell.state ≡ shown.Resumed)

@@ -154,12 +154,13 @@ module _ {C E S : Type 0} (object : Object E) (primitive : C → Primitive E S) 
           apart
 
   -- an exchange of a cell that was found so, and from which nobody else goes on, doesn't miss
-  pub sure-by : (s : QueueStep) (at : Place) (payload : ℕ) (v w : View E S) (cell : CellWord) → IsSureBy (row_of s)
+  pub sure-by : (s : QueueStep) (at : Place) (payload : ℕ) (v w : View E S) (cell : CellWord)
+      → IsSureBy v.opening.sync (row_of s)
       → IsLastBy (row_of s) at.index payload v.facts.last
       → MissedCellBy object primitive (row_of s) at.index payload v cell w → ⊥
   sure-by s at payload v w cell sure last missed = by (row_of s) sure last missed
     where
-      by : (row : StepRow) → IsSureBy row → IsLastBy row at.index payload v.facts.last
+      by : (row : StepRow) → IsSureBy v.opening.sync row → IsLastBy row at.index payload v.facts.last
           → MissedCellBy object primitive row at.index payload v cell w → ⊥
       by (at_counter row) sure last m = m
       by (at_cell row) sure last m =

@@ -1,5 +1,5 @@
 -- A poll of a wait is a look at its cell: it was found with its waiter, or served.
-use Rattle.std.proofs.Common.{◌≡◌, ℕ, List, refl, ap, ◌∙◌, subst}
+use Rattle.std.proofs.Common.{◌≡◌, ℕ, false, List, refl, ap, ◌∙◌, subst}
 use Rattle.cqs_core.specs.declared.cells.CoreState.{CoreState}
 use Rattle.cqs_core.specs.declared.cells.CoreState.TheVariants as state
 use Rattle.cqs_core.specs.QueueStages as stage
@@ -47,7 +47,7 @@ module _ {C E S : Type 0} (object : Object E) (primitive : C → Primitive E S) 
       let state_is : g.state ≡ at = shown-injective g.state at (l.shows.state ∙ is) in
       let payload_is : g.payload ≡ cell.payload =
       l.shows.payload (number-found l.word g l.looked.cell
-      (λ cancelled. absurd (subst (MayFind stage.idle) cancelled l.looked.may))) in
+      (λ cancelled. absurd (subst (MayFind false stage.idle) cancelled l.looked.may))) in
       let same : g ≡ cell_of k at cell.payload =
       λ i. record { number = l.looked.number i; state = state_is i; payload = payload_is i } in
       record {

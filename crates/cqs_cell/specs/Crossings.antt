@@ -1,6 +1,6 @@
 -- The exchanges of a step on the cell that stands at a place: from which word to which; and, one by
 -- one, what the step's row says of the states and payloads that they are made of.
-use Rattle.std.specs.Prelude.{◌≡◌, ℕ, ◌<◌, ◌^◌, Option, Some}
+use Rattle.std.specs.Prelude.{◌≡◌, ℕ, ◌<◌, ◌^◌, Bool, Option, Some}
 use Rattle.std.specs.Option.{option_map}
 use Rattle.cqs_core.specs.declared.cells.CoreState.{CoreState}
 use Rattle.cqs_core.specs.QueueCells.{rank, IsBare}
@@ -11,7 +11,7 @@ use Rattle.cqs_rule_laws.specs.declared.config.Place.{Place}
 use Rattle.cqs_rule_laws.specs.declared.view.Facts.{Facts}
 use Rattle.cqs_rule_laws.specs.declared.view.Glimpse.{Glimpse}
 use Rattle.cqs_rule_laws.specs.declared.view.View.{View}
-use Rattle.cqs_rule_laws.specs.Exchanges.{IsOwnWait, payload_left}
+use Rattle.cqs_rule_laws.specs.Exchanges.{HasLooked, IsOwnWait, payload_left}
 use Rattle.cqs_rule_laws.specs.Placed.{KnowsPlace}
 use Rattle.cqs_rule_laws.specs.Ruled.{shown_state, word_of}
 
@@ -22,6 +22,7 @@ module _ {E S : Type 0} where
       : Type 0 where
     pub works : v.facts.doing ≡ doing_at row.works_at at.index
     pub own : IsOwnWait row.works_at at.index v.facts
+    pub looked : HasLooked row.works_at v
     pub place : KnowsPlace v at
     pub payload_fits : payload < 2 ^ 20
     pub bare : IsBare row.finds → payload ≡ 0
@@ -53,6 +54,14 @@ OwnsBy (at_cell row) k f = IsOwnWait row.works_at k f
 
 abbrev pub Owns : QueueStep → ℕ → Facts → Type 0
 Owns s k f = OwnsBy (row_of s) k f
+
+-- a value that the step takes back was found there as often as it was to be
+abbrev pub LookedBy : {E S : Type 0} → StepRow → View E S → Type 0
+LookedBy (at_counter row) v = ⊥
+LookedBy (at_cell row) v = HasLooked row.works_at v
+
+abbrev pub Looked : {E S : Type 0} → QueueStep → View E S → Type 0
+Looked s v = LookedBy (row_of s) v
 
 -- it is made from this state
 abbrev pub FindsBy : StepRow → CellState → Type 0
@@ -87,13 +96,14 @@ LeavesBy (at_cell row) f payload left =
 abbrev pub Leaves : QueueStep → Facts → ℕ → ℕ → Type 0
 Leaves s f payload left = LeavesBy (row_of s) f payload left
 
--- nobody else goes on from the state that the step finds
-abbrev pub IsSureBy : StepRow → Type 0
-IsSureBy (at_counter row) = ⊥
-IsSureBy (at_cell row) = (x : CoreState) → MayFind row.works_at x → rank row.finds < rank x → ⊥
+-- nobody else goes on from the state that the step finds, where the queue is synchronous or isn't
+abbrev pub IsSureBy : Bool → StepRow → Type 0
+IsSureBy sync (at_counter row) = ⊥
+IsSureBy sync (at_cell row) =
+    (x : CoreState) → MayFind sync row.works_at x → rank row.finds < rank x → ⊥
 
-abbrev pub IsSure : QueueStep → Type 0
-IsSure s = IsSureBy (row_of s)
+abbrev pub IsSure : Bool → QueueStep → Type 0
+IsSure sync s = IsSureBy sync (row_of s)
 
 -- the cell of the number was found so last, in the state that the step finds, with this payload
 abbrev pub IsLastBy : StepRow → ℕ → ℕ → Option Glimpse → Type 0

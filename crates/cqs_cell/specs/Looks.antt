@@ -39,7 +39,7 @@ module _ {C E S : Type 0} (object : Object E) (primitive : C → Primitive E S) 
     pub glimpse : Glimpse
     pub number : glimpse.number ≡ k
     pub cell : FoundCell n glimpse
-    pub may : MayStand load glimpse.state
+    pub may : MayStand v.opening.sync load glimpse.state
     pub since : SinceLast glimpse v.facts.last
     pub heads : List (ℕ × ℕ)
     pub few_heads : length heads ≤ 1

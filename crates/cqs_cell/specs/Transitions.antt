@@ -62,7 +62,7 @@ module _ {C E S : Type 0} (object : Object E) (primitive : C → Primitive E S) 
     pub cell : FoundCell word glimpse
     pub state_is : shown_state glimpse.state ≡ state
     pub other : IsBare row.finds → glimpse.state ≢ row.finds
-    pub may : MayFind row.works_at glimpse.state
+    pub may : MayFind v.opening.sync row.works_at glimpse.state
     pub since : SinceLast glimpse v.facts.last
     pub saw : Saw object v (facts_missed word glimpse v.facts) [] w
     pub was : WasFound primitive (HasCell glimpse) [] w

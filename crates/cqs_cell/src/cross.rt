@@ -5,6 +5,7 @@ ghost use Rattle.cqs_cell.specs.Crossings.{
   Crosses,
   Works,
   Owns,
+  Looked,
   Finds,
   Fits,
   Makes,
@@ -37,6 +38,7 @@ pub(crate) fn cross<C: ClientWords, K: Kind>(
     requires suits { Suits (C.primitive (client_of queue.now)).manner K.step }
     requires works { Works K.step at.index (pass_view pass.old).facts }
     requires owns { Owns K.step at.index (pass_view pass.old).facts }
+    requires looked { Looked K.step (pass_view pass.old) }
     requires place { KnowsPlace (pass_view pass.old) at }
     requires index { at.index < 2 ^ 40 }
     requires payload { payload < 2 ^ 20 }
@@ -82,6 +84,7 @@ pub(crate) fn cross_surely<C: ClientWords, K: Kind>(
     requires suits { Suits (C.primitive (client_of queue.now)).manner K.step }
     requires works { Works K.step at.index (pass_view pass.old).facts }
     requires owns { Owns K.step at.index (pass_view pass.old).facts }
+    requires looked { Looked K.step (pass_view pass.old) }
     requires place { KnowsPlace (pass_view pass.old) at }
     requires index { at.index < 2 ^ 40 }
     requires payload { payload < 2 ^ 20 }
@@ -91,7 +94,7 @@ pub(crate) fn cross_surely<C: ClientWords, K: Kind>(
     requires makes { Makes K.step made }
     requires leaves { Leaves K.step (pass_view pass.old).facts payload left }
     requires last { IsLast K.step at.index payload (pass_view pass.old).facts.last }
-    requires sure { IsSure K.step }
+    requires sure { IsSure (pass_view pass.old).opening.sync K.step }
     ensures belongs { IsOf queue.now pass.new }
     ensures made { HasMade K.step at.index payload pass.old pass.new }
 {

@@ -6,8 +6,9 @@
 //! | from | to | by | entry |
 //! |---|---|---|---|
 //! | Empty | Waiter | `install`: the suspend of the number | |
-//! | Empty | Value | `leave_value`: its resume | |
-//! | Value | Taken | `take_value`: its suspend | delivered |
+//! | Empty | Value | `leave_value`, or `leave_watched`: its resume | |
+//! | Value | Taken | `take_value`, or `take_watched`: its suspend | delivered |
+//! | Value | Broken | `break_value`: its resume, in a synchronous queue | broken |
 //! | Waiter | Resumed | `serve`: its resume | delivered |
 //! | Waiter | Cancelling | `begin_cancel`, or `leave_line`: the owner of the wait | |
 //! | Waiter | Cancelled | `leave_at_once`: the owner, where the resume is to end there | |
@@ -32,6 +33,7 @@ mod looks;
 mod settling;
 mod transitions;
 mod values;
+mod watching;
 
 pub use at_once::leave_at_once;
 pub use cancelling::{begin_cancel, settle};
@@ -39,3 +41,4 @@ pub use leaving::{leave_line, settle_left};
 pub use looks::{look, look_for_grant, watch};
 pub use transitions::{delegate, install, leave_value, serve};
 pub use values::take_value;
+pub use watching::{break_value, leave_watched, take_watched};

@@ -1,6 +1,6 @@
 //! The transitions of a suspend and of a resume.
 
-ghost use Rattle.std.specs.Prelude.{◌≡◌, IfOk, IfErr};
+ghost use Rattle.std.specs.Prelude.{◌≡◌, false, IfOk, IfErr};
 ghost use Rattle.cqs_core.specs.declared.doings.Doing.TheVariants as doing;
 ghost use Rattle.cqs_core.specs.QueueSteps.{installs, leaves, serves, delegates};
 ghost use Rattle.cqs_rule_laws.specs.Manner.{Suits};
@@ -33,7 +33,7 @@ pub fn install<C: ClientWords>(
     }
 }
 
-/// An empty cell gets what its resume owes.
+/// An empty cell gets what its resume owes, for good: in a queue that isn't synchronous.
 #[inline(always)]
 pub fn leave_value<C: ClientWords>(
     queue: &Queue<C>,
@@ -42,6 +42,7 @@ pub fn leave_value<C: ClientWords>(
     payload: u32,
 ) -> Result<(), CellState>
     requires belongs { IsOf queue.now pass.old }
+    requires plain { (C.primitive (client_of queue.now)).manner.watches ≡ false }
     requires ticket { (pass_view pass.old).facts.doing ≡ doing.Ticket at.index }
     requires place { KnowsPlace (pass_view pass.old) at }
     requires owes { (pass_view pass.old).facts.has.payload ≡ payload }

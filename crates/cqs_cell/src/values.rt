@@ -1,9 +1,9 @@
-//! The value that a resume left in a cell.
+//! The value that a resume left in a cell for good: in a queue that isn't synchronous.
 
-ghost use Rattle.std.specs.Prelude.{◌≡◌, ◌≢◌, IfOk, IfErr};
+ghost use Rattle.std.specs.Prelude.{◌≡◌, ◌≢◌, false, IfOk, IfErr};
 ghost use Rattle.cqs_core.specs.declared.doings.Doing.TheVariants as doing;
 ghost use Rattle.cqs_core.specs.QueueSteps.{takes};
-ghost use Rattle.cqs_rule.specs.Passes.{pass_view, IsOf};
+ghost use Rattle.cqs_rule.specs.Passes.{pass_view, client_of, IsOf};
 ghost use Rattle.cqs_rule_laws.specs.Placed.{KnowsPlace};
 ghost use Rattle.cqs_cell.specs.Transitions.{HasMadeAfter, HasMissed};
 ghost use Rattle.cqs_words.specs.declared.cell.CellState.TheVariants as shown;
@@ -23,6 +23,7 @@ pub fn take_value<C: ClientWords>(
     at: Place,
 ) -> Result<u32, CellState>
     requires belongs { IsOf queue.now pass.old }
+    requires plain { (C.primitive (client_of queue.now)).manner.watches ≡ false }
     requires drawn { (pass_view pass.old).facts.doing ≡ doing.Drawn at.index }
     requires place { KnowsPlace (pass_view pass.old) at }
     ensures belongs { IsOf queue.now pass.new }

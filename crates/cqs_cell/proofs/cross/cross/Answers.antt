@@ -6,4 +6,4 @@ pub exchange-requires-clause-cell : goal.exchange-requires-clause-cell
 exchange-requires-clause-cell g c =
     let r = c.requires in
     crosses-by _ c.args.at c.args.found c.args.made c.args.payload c.args.left _ _ (row_of g.K.Kind.step) r.works r.owns
-    r.place r.payload r.fits r.finds r.makes r.leaves c.pack.ensures.value c.pack-2.ensures.value
+    r.looked r.place r.payload r.fits r.finds r.makes r.leaves c.pack.ensures.value c.pack-2.ensures.value

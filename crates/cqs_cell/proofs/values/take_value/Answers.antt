@@ -1,4 +1,8 @@
-use Rattle.std.proofs.Common.{◌∙◌}
+use Rattle.std.proofs.Common.{ap, subst, ◌∙◌}
+use Rattle.cqs_core.specs.QueueStages as stage
+use Rattle.cqs_core.specs.QueueStages.{MayFind}
+use Rattle.cqs_rule_laws.specs.declared.view.Opening.{Opening}
+use Rattle.cqs_rule.proofs.PlainQueues.{plain-opening}
 use Rattle.cqs_core.specs.declared.cells.CoreState.TheVariants as state
 use Rattle.cqs_rule_laws.proofs.CellSteps.{shown-injective}
 use Rattle.cqs_cell.proofs.Made.{after-miss, none-takes}
@@ -26,4 +30,10 @@ cross_surely-requires-clause-last g c =
     (after-miss C.object C.primitive _ _ _ state.Value _ _ _ m is (λ e. absurd (cc))).last
 
 pub cross_surely-requires-clause-sure : goal.cross_surely-requires-clause-sure
-cross_surely-requires-clause-sure g c = none-takes
+cross_surely-requires-clause-sure g c =
+    let C = g.C.ClientWords in
+    let m = c.in-Err.ensures.missed in
+    let plain = plain-opening c.args.queue.now c.args.pass.now g.met.C.ClientWords.keeps c.requires.belongs
+    c.requires.plain in
+    let same = ap (λ (o : Opening). o.sync) m.missed.saw.same.opening ∙ plain in
+    λ x may more. none-takes x (subst (λ b. MayFind b stage.drawn x) same may) more

@@ -23,7 +23,7 @@ use Rattle.cqs_rule_laws.specs.Lists.{NamesOnly}
 use Rattle.cqs_rule_laws.specs.Ruled.{number_at}
 use Rattle.cqs_rule_laws.specs.Held.{held_of}
 use Rattle.cqs_rule_laws.proofs.Held.{held-is, held-set, held-kept}
-use Rattle.cqs_rule.proofs.Ticketless.{no-ticket, if-ticketless, same-ticket}
+use Rattle.cqs_rule.proofs.Ticketless.{no-ticket, if-ticketless, same-ticket, if-away, away-from, stays-or}
 use Rattle.cqs_barrier.specs.Barrier.{further_of, barrier_shown, ShowsBarrier, barrier_object, barrier_primitive, arrives, looks_to_leave, withdraws}
 use Rattle.cqs_barrier.specs.BarrierClient.{further-set, further-kept}
 use Rattle.cqs_barrier.specs.Word.{parties_in, remaining_in, is_over, is_last}
@@ -233,6 +233,7 @@ arrive-moves parties p facts idle may holds = record {
       (λ m apart. rw (ne_eqb p m (λ q. apart (sym q))) refl) (λ m apart. rw (ne_eqb p m (λ q. apart (sym q))) refl);
   door = λ n q. inr may;
   ticket = λ n j q. absurd (no-ticket _ (if-ticketless (is_last n) doing.Idle doing.Door tt tt) j q);
+  away = λ n. away-from doing.Idle facts.doing _ idle tt (if-away (is_last n) doing.Idle doing.Door tt tt);
   owed = λ n owing. absurd (idle-free facts.doing idle owing);
   keeps = λ n none. absurd (some-entry (is_last n) (entry.ArriveLast p) (entry.ArriveDoor p) none);
   owing = λ n none. absurd (some-entry (is_last n) (entry.ArriveLast p) (entry.ArriveDoor p) none);
@@ -249,6 +250,7 @@ look-moves parties p facts k at = record {
       (λ m apart. rw (ne_eqb p m (λ q. apart (sym q))) refl) (λ m apart. refl);
   door = λ n q. absurd (no-door (is_over n) q);
   ticket = λ n j q. same-ticket (is_over n) (doing.Decided (number_at facts.doing) false) facts.doing tt j q;
+  away = λ n. stays-or (is_over n) (doing.Decided (number_at facts.doing) false) (doing.Leaving k) facts.doing at tt tt;
   owed = λ n owing. refl;
   keeps = λ n none. refl;
   owing = λ n none. same-owing (is_over n) none;
@@ -278,6 +280,8 @@ withdraw-moves parties p facts saw k few at some = record {
       (λ m apart. rw (ne_eqb p m (λ q. apart (sym q))) refl) (λ m apart. refl);
   door = λ n q. absurd (no-door (where_found saw n) q);
   ticket = λ n j q. same-ticket (where_found saw n) (doing.Decided (number_at facts.doing) true) facts.doing tt j q;
+  away = λ n. stays-or (where_found saw n) (doing.Decided (number_at facts.doing) true) (doing.Leaving k) facts.doing
+      at tt tt;
   owed = λ n owing. refl;
   keeps = λ n none. same-has (where_found saw n) none;
   owing = λ n none. same-owing (where_found saw n) none;

@@ -57,11 +57,12 @@ barrier_object = record {
 -- a barrier asks where a wait leaves, its passes come to a door, and the last owes a resumption for
 -- each of the others
 abbrev pub barrier_manner : Manner
-barrier_manner = record { leaving = asks; has_door = true; source = owed_further }
+barrier_manner = record
+    { leaving = asks; has_door = true; source = owed_further; watches = false }
 
 abbrev pub barrier_primitive : {T : Type 0} → ℕ → Primitive BarrierEntry T
 barrier_primitive parties = record {
-  opening = record { size = parties; mode = Smart };
+  opening = record { size = parties; mode = Smart; sync = false; looks = 0 };
   shows = ShowsBarrier parties;
   manner = barrier_manner;
   words = word_of parties parties ∷ [];

@@ -8,7 +8,8 @@ use Rattle.std.specs.Prelude.{slice_index, slice_set}
 use Rattle.std.specs.Option.{option_map}
 use Rattle.cqs_core.specs.declared.cells.CoreCell.{CoreCell}
 use Rattle.cqs_core.specs.declared.doings.Doing.TheVariants as doing
-use Rattle.cqs_core.specs.QueueSteps.{QueueStep, draws, enters, reaches, begins, puts, installs, takes, serves, leaves, delegates, passes_over, ends_refused, ends_missed, starts_leaving, leaves_line, leaves_at_once, settles, settles_owing, refuses, refuses_value, looks, pends, grants, late, row_of, StepRow, at_counter, at_cell, Gain, nothing, its_own, a_debt, Cost, no_cost, one_owed, one_element, IsOpenStep}
+use Rattle.cqs_core.specs.QueueSteps.{QueueStep, draws, enters, reaches, begins, puts, installs, takes, serves, leaves, delegates, passes_over, ends_refused, ends_missed, starts_leaving, leaves_line, leaves_at_once, settles, settles_owing, refuses, refuses_value, looks, pends, grants, late, in_sync, row_of, StepRow, at_counter, at_cell, Gain, nothing, its_own, a_debt, Cost, no_cost, one_owed, one_element, IsOpenStep}
+use Rattle.cqs_core.proofs.EitherQueues.{either-sound}
 use Rattle.cqs_core.proofs.Places.{get-set_else, set-same}
 use Rattle.cqs_barrier_object.specs.declared.entries.BarrierEntry.{BarrierEntry}
 use Rattle.cqs_barrier_object.specs.BarrierNames.{entry_names}
@@ -27,6 +28,7 @@ use Rattle.cqs_rule_laws.specs.Opened.{first_hidden, four}
 use Rattle.cqs_rule_laws.specs.Held.{held_of}
 use Rattle.cqs_rule_laws.proofs.Held.{held-at, held-is, held-set, held-kept}
 use Rattle.cqs_rule_laws.specs.Views.{first_has}
+use Rattle.cqs_rule.proofs.PlainQueues.{suits-none}
 use Rattle.cqs_barrier.specs.Barrier.{further_of, barrier_shown, ShowsBarrier, no_more, barrier_object, barrier_manner, barrier_primitive}
 use Rattle.cqs_barrier.specs.Word.{word_of, parties_in, remaining_in}
 
@@ -54,6 +56,7 @@ silent-step refuses_value p k payload n apart = refl
 silent-step (looks pends) p k payload n apart = rw (ne_eqb p n (λ q. apart (sym q))) refl
 silent-step (looks grants) p k payload n apart = rw (ne_eqb p n (λ q. apart (sym q))) refl
 silent-step (looks late) p k payload n apart = rw (ne_eqb p n (λ q. apart (sym q))) refl
+silent-step (in_sync e) p k payload n apart = refl
 
 -- how many further resumptions the pass owes that has this
 pub further-at : (l : List Has) (p : ℕ) (has : Has) → slice_get l p ≡ Some has
@@ -144,6 +147,7 @@ suiting settles_owing suits = tt
 suiting refuses suits = tt
 suiting refuses_value suits = tt
 suiting (looks e) suits = tt
+suiting (in_sync e) suits = suits-none barrier_manner refl e suits
 
 -- what pays for a resumption that is begun is owed further
 paid-cost : (cost : Cost) (l : List Has) (p payload : ℕ) (has : Has) → slice_get l p ≡ Some has
@@ -181,6 +185,8 @@ paid-row refuses_value l p payload left has there paid suits = tt
 paid-row (looks pends) l p payload left has there paid suits = tt
 paid-row (looks grants) l p payload left has there paid suits = tt
 paid-row (looks late) l p payload left has there paid suits = tt
+paid-row (in_sync e) l p payload left has there paid suits =
+    absurd (suits-none barrier_manner refl e suits)
 
 steps-barrier : {T : Type 0} (parties : ℕ) (c : Hidden) (t : QueueStep) (p k : ℕ)
     (found : Option CoreCell) (has : Has) (payload : ℕ)
@@ -297,6 +303,7 @@ pub barrier-client : {T : Type 0} (parties : ℕ) → 0 < parties → parties �
     → IsClient barrier_object (barrier_primitive {T = T} parties)
 barrier-client parties some low = record {
   mode = refl;
+  sync = refl;
   begins = λ passes any few. begins-barrier parties passes some low any;
   steps = λ c t p k found has payload words log handed shown opens there paid suits low low'.
       steps-barrier parties c t p k found has payload words log handed shown opens there paid suits;
@@ -310,7 +317,7 @@ barrier-client parties some low = record {
       there enough refl refl refl refl;
   silent = silent-step;
   quiet = record { drawing = λ p k payload. refl; passing = λ p k payload. refl };
-  sound = λ c words log handed shown. shown.barrier.sound;
+  sound = λ c words log handed shown. either-sound c.queue shown.barrier.sound;
   legal_shown = λ c words log handed shown. shown.barrier.legal;
   held_fits = λ c words log handed p has shown there.
       let few = barrier-held_few (barrier_shown parties c words log) p has.held shown.barrier

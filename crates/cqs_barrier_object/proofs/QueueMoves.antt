@@ -207,7 +207,7 @@ module _ (s : Shape) (p k : ℕ) (is : IsBarrier s) where
       let r : Queue = move_queue s.queue (move.reach p s.queue.resumes found) in
       let within = owed-within s p doing.Idle is does in
       quiet-barrier s (one_fewer s.owed p) r 0 is
-      (sound-after s.queue begins p s.queue.resumes found is.sound (does, refl, finds))
+      (sound-after s.queue begins p s.queue.resumes found tt is.sound (does, refl, finds))
       (quiet-begins s.queue r s.owed p (begins-reach s.queue p found does) (owed-there s p doing.Idle is does) some)
       (λ before. let was = is.before before in absurd (omega (arith, was.none)))
       (stayed-reached s.queue p doing.Idle found does (λ m. refl))

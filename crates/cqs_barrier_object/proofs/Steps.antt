@@ -47,9 +47,10 @@ keeps-barrier s step.leaves p k is may paid = λ found w.
 keeps-barrier s step.delegates p k is may paid = λ found w.
     quiet _ _ refl (barrier-delegate s p k is found w.0)
 keeps-barrier s step.passes_over p k is may paid = λ found w.
-    quiet _ _ (leads s.queue p k step.passes_over (Some found) w is.sound).1 (barrier-pass_over s p k is found w.0)
+    quiet _ _ (leads s.queue p k step.passes_over (Some found) tt w is.sound).1 (barrier-pass_over s p k is found w.0)
 keeps-barrier s step.ends_refused p k is may paid = λ found w.
-    quiet _ _ (leads s.queue p k step.ends_refused (Some found) w is.sound).1 (barrier-meet_refused s p k is found w.0)
+    quiet _ _ (leads s.queue p k step.ends_refused (Some found) tt w is.sound).1
+    (barrier-meet_refused s p k is found w.0)
 keeps-barrier s step.starts_leaving p k is may paid = λ found w.
     quiet _ _ refl (barrier-begin_cancel s p k is found w.0 w.1)
 keeps-barrier s step.settles p k is may paid = λ found w.
@@ -60,19 +61,20 @@ keeps-barrier s step.refuses p k is may paid = λ found w.
 keeps-barrier s step.refuses_value p k is may paid = λ found w.
     quiet _ _ refl (barrier-refuse_left s p k is found w.0)
 keeps-barrier s (step.looks step.pends) p k is may paid = λ found w.
-    same-shape _ _ _ refl (leads s.queue p k (step.looks step.pends) (Some found) w is.sound).1
+    same-shape _ _ _ refl (leads s.queue p k (step.looks step.pends) (Some found) tt w is.sound).1
     (barrier-pending s p k is found w.0 w.1)
 keeps-barrier s (step.looks step.grants) p k is may paid = λ found w.
-    same-shape _ _ _ refl (leads s.queue p k (step.looks step.grants) (Some found) w is.sound).1
+    same-shape _ _ _ refl (leads s.queue p k (step.looks step.grants) (Some found) tt w is.sound).1
     (barrier-granted s p k is found w.0 w.1)
 keeps-barrier s (step.looks step.late) p k is may paid = λ found w.
-    same-shape _ _ _ refl (leads s.queue p k (step.looks step.late) (Some found) w is.sound).1
+    same-shape _ _ _ refl (leads s.queue p k (step.looks step.late) (Some found) tt w is.sound).1
     (barrier-late s p k is found w.0 w.1)
 keeps-barrier s step.enters p k is may paid = absurd may
 keeps-barrier s step.puts p k is may paid = absurd may
 keeps-barrier s step.ends_missed p k is may paid = absurd may
 keeps-barrier s step.leaves_line p k is may paid = absurd may
 keeps-barrier s step.leaves_at_once p k is may paid = absurd may
+keeps-barrier s (step.in_sync e) p k is may paid = absurd may
 
 pub step-keeps : EveryStepKeepsTheBarrier
 step-keeps s t p k found is may w paid =

@@ -37,6 +37,7 @@ IsBarrierStep step.settles_owing = Unit {0}
 IsBarrierStep step.refuses = Unit {0}
 IsBarrierStep step.refuses_value = Unit {0}
 IsBarrierStep (step.looks e) = Unit {0}
+IsBarrierStep (step.in_sync e) = ⊥
 
 -- what no history has: a party that is the last arrives, and another one after it
 abbrev pub never : ℕ → List BarrierEntry
@@ -68,6 +69,7 @@ step_entries step.refuses_value p k = []
 step_entries (step.looks step.pends) p k = entry.LookPending p k ∷ []
 step_entries (step.looks step.grants) p k = entry.LookGranted p k ∷ []
 step_entries (step.looks step.late) p k = entry.Late p k ∷ []
+step_entries (step.in_sync e) p k = []
 
 -- what p owes further pays for the resumption that it begins
 abbrev pub IsPaid : Cost → List ℕ → ℕ → Type 0

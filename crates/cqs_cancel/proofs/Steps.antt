@@ -369,7 +369,7 @@ module _ {C E S : Type 0} (object : Object E) (primitive : C → Primitive E S) 
         cell = m.cell;
         state_is = m.state_is;
         other = λ bare is. m.other (subst IsBare (sym finds) bare) (is ∙ sym finds);
-        may = subst (λ s. MayFind s m.glimpse.state) works m.may;
+        may = subst (λ s. MayFind v.opening.sync s m.glimpse.state) works m.may;
         since = m.since;
         saw = m.saw;
         was = m.was;

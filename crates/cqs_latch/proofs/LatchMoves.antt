@@ -20,7 +20,7 @@ use Rattle.cqs_rule_laws.specs.Hidden.{Hidden, stands_at}
 use Rattle.cqs_rule_laws.specs.Lists.{NamesOnly}
 use Rattle.cqs_rule_laws.specs.Manner.{Asks}
 use Rattle.cqs_rule_laws.specs.Ruled.{number_at}
-use Rattle.cqs_rule.proofs.Ticketless.{no-ticket, if-ticketless}
+use Rattle.cqs_rule.proofs.Ticketless.{no-ticket, if-ticketless, if-away, away-from}
 use Rattle.cqs_latch.specs.Latch.{is_simple, latch_limit, further_of, latch_shown, ShowsLatch, latch_object, latch_primitive, latch_manner}
 use Rattle.cqs_latch.specs.LatchClient.{further-set, further-kept, none-held}
 use Rattle.cqs_latch.specs.LatchEvents.{loads_to_count, counts_down, loads_to_wait, comes, turns_back, opens, leaves}
@@ -188,6 +188,8 @@ module _ (T : Type 0) (mode : CancelMode) (size p : ℕ) (facts : Facts) where
     door = λ n q. absurd (not-door (is_used (count_in n)) (count_in n) q);
     ticket = λ n j q. absurd (no-ticket _ (if-ticketless (is_used (count_in n)) doing.Idle (doing.TryAt (count_in n)) tt
         tt) j q);
+    away = λ n. away-from doing.Idle facts.doing _ idle tt
+        (if-away (is_used (count_in n)) doing.Idle (doing.TryAt (count_in n)) tt tt);
     owed = λ n owing. refl;
     keeps = λ n none. refl;
     owing = λ n none. not-owing (is_used (count_in n)) (count_in n) ∙ sym (ap is_owing idle);
@@ -203,6 +205,8 @@ module _ (T : Type 0) (mode : CancelMode) (size p : ℕ) (facts : Facts) where
     door = λ n q. absurd (not-door (is_used (count_in n)) (count_in n) q);
     ticket = λ n j q. absurd (no-ticket _ (if-ticketless (is_used (count_in n)) doing.Idle (doing.TryAt (count_in n)) tt
         tt) j q);
+    away = λ n. away-from doing.Idle facts.doing _ idle tt
+        (if-away (is_used (count_in n)) doing.Idle (doing.TryAt (count_in n)) tt tt);
     owed = λ n owing. refl;
     keeps = λ n none. refl;
     owing = λ n none. not-owing (is_used (count_in n)) (count_in n) ∙ sym (ap is_owing idle);
@@ -221,6 +225,9 @@ module _ (T : Type 0) (mode : CancelMode) (size p : ℕ) (facts : Facts) where
       ticket = λ n j q. absurd (no-ticket _ (if-ticketless (is_used (count_in n)) doing.Idle (if is_last (count_in n)
           then doing.TryAt (pos 0) else doing.Idle) tt
           (if-ticketless (is_last (count_in n)) (doing.TryAt (pos 0)) doing.Idle tt tt)) j q);
+      away = λ n. away-from (doing.TryAt v) facts.doing _ tries tt (if-away (is_used (count_in n)) doing.Idle
+          (if is_last (count_in n) then doing.TryAt (pos 0) else doing.Idle) tt
+          (if-away (is_last (count_in n)) (doing.TryAt (pos 0)) doing.Idle tt tt));
       owed = λ n owing. refl;
       keeps = λ n none. refl;
       owing = λ n none. absurd (some-entry (counted_entry p (count_in n)) none);
@@ -234,6 +241,7 @@ module _ (T : Type 0) (mode : CancelMode) (size p : ℕ) (facts : Facts) where
       silent = λ n m apart. rw (come-names (is_done n) p m apart) refl;
       door = λ n q. inr may;
       ticket = λ n j q. absurd (no-ticket _ (if-ticketless (is_done n) doing.Idle doing.Door tt tt) j q);
+      away = λ n. away-from (doing.TryAt v) facts.doing _ tries tt (if-away (is_done n) doing.Idle doing.Door tt tt);
       owed = λ n owing. refl;
       keeps = λ n none. refl;
       owing = λ n none. absurd (some-entry (come_entry p (is_done n)) none);
@@ -248,6 +256,7 @@ module _ (T : Type 0) (mode : CancelMode) (size p : ℕ) (facts : Facts) where
       silent = λ n m apart. refl;
       door = λ n q. absurd (idle-door q);
       ticket = λ n j q. absurd (no-ticket doing.Idle tt j q);
+      away = λ n. away-from (doing.TryAt v) facts.doing doing.Idle tries tt tt;
       owed = λ n owing. refl;
       keeps = λ n none. refl;
       owing = λ n none. sym (ap is_owing tries);
@@ -265,6 +274,7 @@ module _ (T : Type 0) (mode : CancelMode) (size p : ℕ) (facts : Facts) where
       silent = λ n m apart. rw (other p m apart) refl;
       door = λ n q. absurd (idle-door q);
       ticket = λ n j q. absurd (no-ticket doing.Idle tt j q);
+      away = λ n. away-from (doing.TryAt v) facts.doing doing.Idle tries tt tt;
       owed = λ n owing. absurd (not-tries (sym (ap is_owing tries) ∙ owing));
       keeps = λ n none. absurd (some-entry (entry.Open p) none);
       owing = λ n none. absurd (some-entry (entry.Open p) none);
@@ -289,6 +299,7 @@ module _ (T : Type 0) (mode : CancelMode) (size p : ℕ) (facts : Facts) where
     silent = λ n m apart. rw (other p m apart) refl;
     door = λ n q. absurd (no-door (number_at facts.doing) (not (is_done n)) q);
     ticket = λ n j q. absurd (no-ticket (doing.Decided (number_at facts.doing) (not (is_done n))) tt j q);
+    away = λ n. away-from (doing.Leaving k) facts.doing _ leaving tt tt;
     owed = λ n owing. refl;
     keeps = λ n none. refl;
     owing = λ n none. absurd (some-entry (entry.Leave p (number_at facts.doing)) none);

@@ -14,7 +14,7 @@ use Rattle.cqs_rule_laws.specs.declared.config.CancelMode.{CancelMode}
 use Rattle.cqs_rule_laws.specs.declared.config.CancelMode.TheVariants.{Smart, Simple}
 use Rattle.cqs_rule_laws.specs.Client.{no_number}
 use Rattle.cqs_rule_laws.specs.Hidden.{Hidden, Gains}
-use Rattle.cqs_rule_laws.specs.Manner.{Manner, asks, at_once, owed_further}
+use Rattle.cqs_rule_laws.specs.Manner.{Leaving, Manner, asks, at_once, owed_further}
 use Rattle.cqs_rule_laws.specs.Object.{Object, Primitive}
 use Rattle.cqs_words.specs.State.{state_word, count_in}
 use Rattle.cqs_words.specs.Waiters.{waiters_word, waiters_in, is_done}
@@ -73,11 +73,20 @@ latch_object = record {
   knows = λ opening has. Unit {0};
 }
 
--- In smart mode the latch is asked where a wait leaves; in simple mode a wait leaves at once. Its
--- passes come to a door, and who opens it owes a resumption for each who waits.
+-- in smart mode the latch is asked where a wait leaves; in simple mode a wait leaves at once
+abbrev pub leaving_in : CancelMode → Leaving
+leaving_in Smart = asks
+leaving_in Simple = at_once
+
+-- Its passes come to a door, who opens it owes a resumption for each who waits, and its resumes
+-- don't watch.
 abbrev pub latch_manner : CancelMode → Manner
-latch_manner Smart = record { leaving = asks; has_door = true; source = owed_further }
-latch_manner Simple = record { leaving = at_once; has_door = true; source = owed_further }
+latch_manner mode = record {
+  leaving = leaving_in mode;
+  has_door = true;
+  source = owed_further;
+  watches = false;
+}
 
 -- Who opens the latch owes a resumption for each waiter that is counted, and so many have to fit 32
 -- bits. In simple mode all who ever came are counted: no more than the numbers drawn and 32 passes.
@@ -86,7 +95,7 @@ latch_limit = 4294967232
 
 abbrev pub latch_primitive : {T : Type 0} → CancelMode → ℕ → Primitive LatchEntry T
 latch_primitive mode size = record {
-  opening = record { size = size; mode = mode };
+  opening = record { size = size; mode = mode; sync = false; looks = 0 };
   shows = λ c words log handed. ShowsLatch mode size c words log;
   manner = latch_manner mode;
   words = state_word (pos size) ∷ waiters_word 0 (size == 0) ∷ [];

@@ -14,8 +14,9 @@ use Rattle.cqs_core.specs.declared.doings.Doing.TheVariants as doing
 use Rattle.cqs_core.specs.QueueLine.{door}
 use Rattle.cqs_core.specs.QueueMoves.{cells_drawn, cells_reached}
 use Rattle.cqs_core.specs.QueueState.{Queue, fresh_cell}
-use Rattle.cqs_core.specs.QueueSteps.{QueueStep, draws, enters, reaches, begins, puts, installs, takes, serves, leaves, delegates, passes_over, ends_refused, ends_missed, starts_leaving, leaves_line, leaves_at_once, settles, settles_owing, refuses, refuses_value, looks, pends, grants, late, row_of, StepRow, at_counter, at_cell, Counter, to_suspend, to_resume, Gain, nothing, its_own, a_debt, Cost, no_cost, one_owed, one_element, IsOpenStep, IsOpenRow, CellRow, state_made, cell_after, queue_after, row_after}
+use Rattle.cqs_core.specs.QueueSteps.{QueueStep, draws, enters, reaches, begins, puts, installs, takes, serves, leaves, delegates, passes_over, ends_refused, ends_missed, starts_leaving, leaves_line, leaves_at_once, settles, settles_owing, refuses, refuses_value, looks, pends, grants, late, in_sync, row_of, StepRow, at_counter, at_cell, Counter, to_suspend, to_resume, Gain, nothing, its_own, a_debt, Cost, no_cost, one_owed, one_element, IsOpenStep, IsOpenRow, CellRow, state_made, cell_after, queue_after, row_after}
 use Rattle.cqs_core.proofs.EachAtLemmas.{EachAt-write, EachAt-push}
+use Rattle.cqs_core.proofs.EitherQueues.{either-sound}
 use Rattle.cqs_core.proofs.Places.{get-set_else, set-same}
 use Rattle.cqs_core.proofs.QueueOpens.{get-replicate}
 use Rattle.cqs_latch_object.specs.declared.entries.LatchEntry.{LatchEntry}
@@ -37,6 +38,7 @@ use Rattle.cqs_rule_laws.specs.Lists.{NamesOnly}
 use Rattle.cqs_rule_laws.specs.Manner.{mode_for, Suits}
 use Rattle.cqs_rule_laws.specs.Opened.{first_hidden, four}
 use Rattle.cqs_rule_laws.specs.Views.{first_has}
+use Rattle.cqs_rule.proofs.PlainQueues.{suits-none}
 use Rattle.cqs_latch.specs.Latch.{is_simple, further_of, latch_shown, HoldsNothing, HoldsPlain, ShowsLatch, nothing_more, latch_object, latch_manner, latch_primitive}
 use Rattle.cqs_words.specs.State.{state_word, count_in}
 use Rattle.cqs_words.specs.Waiters.{waiters_word}
@@ -66,6 +68,7 @@ silent-step refuses_value p k payload n apart = refl
 silent-step (looks pends) p k payload n apart = rw (ne_eqb p n (λ q. apart (sym q))) refl
 silent-step (looks grants) p k payload n apart = rw (ne_eqb p n (λ q. apart (sym q))) refl
 silent-step (looks late) p k payload n apart = rw (ne_eqb p n (λ q. apart (sym q))) refl
+silent-step (in_sync e) p k payload n apart = refl
 
 -- how many resumptions the pass owes that has this
 pub further-at : (l : List Has) (p : ℕ) (has : Has) → slice_get l p ≡ Some has
@@ -150,7 +153,7 @@ suiting mode serves suits = tt
 suiting mode leaves suits = tt
 suiting mode (looks e) suits = tt
 suiting Smart delegates suits = refl
-suiting Simple delegates suits = absurd suits
+suiting Simple delegates suits = absurd suits.0
 suiting Smart passes_over suits = refl
 suiting Simple passes_over suits = absurd suits
 suiting Smart ends_refused suits = refl
@@ -175,6 +178,7 @@ suiting Smart leaves_line suits = absurd suits
 suiting Simple leaves_line suits = absurd suits
 suiting Smart enters suits = absurd (door-drawn suits)
 suiting Simple enters suits = absurd (door-drawn suits)
+suiting mode (in_sync e) suits = suits-none (latch_manner mode) refl e suits
 
 -- what the latch owes for a step pays for it
 paid-by : (row : StepRow) (l : List Has) (p left payload : ℕ) (has : Has) → slice_get l p ≡ Some has
@@ -284,7 +288,7 @@ plain-after Simple ends_missed q p k found suits opens each =
     row-plain (row_of ends_missed) q p k found opens tt each
 plain-after Simple leaves_at_once q p k found suits opens each =
     row-plain (row_of leaves_at_once) q p k found opens tt each
-plain-after Simple delegates q p k found suits opens each = absurd suits
+plain-after Simple delegates q p k found suits opens each = absurd suits.0
 plain-after Simple passes_over q p k found suits opens each = absurd suits
 plain-after Simple ends_refused q p k found suits opens each = absurd suits
 plain-after Simple starts_leaving q p k found suits opens each = absurd suits
@@ -295,6 +299,8 @@ plain-after Simple refuses_value q p k found suits opens each = absurd suits
 plain-after Simple puts q p k found suits opens each = absurd suits
 plain-after Simple leaves_line q p k found suits opens each = absurd suits
 plain-after Simple enters q p k found suits opens each = absurd (door-drawn suits)
+plain-after Simple (in_sync e) q p k found suits opens each =
+    absurd (suits-none (latch_manner Simple) refl e suits)
 
 no-cell : (k : ℕ) (cell : CoreCell) → ◌≡◌ {A = Option CoreCell} (slice_get [] k) (Some cell) → ⊥
 no-cell k cell got = cc
@@ -459,6 +465,7 @@ pub latch-client : {T : Type 0} (mode : CancelMode) (size : ℕ)
     → IsClient latch_object (latch_primitive {T = T} mode size)
 latch-client mode size = record {
   mode = its-mode mode;
+  sync = refl;
   begins = λ passes any few. begins-latch mode size passes any few;
   steps = λ c t p k found has payload words log handed shows opens there paid suits low low'.
       steps-latch mode size c t p k found has payload words log shows opens there paid suits low;
@@ -476,7 +483,8 @@ latch-client mode size = record {
       shares-latch mode size c from to many mine theirs words log shows apart has there enough;
   silent = silent-step;
   quiet = record { drawing = λ p k payload. refl; passing = λ p k payload. refl };
-  sound = λ c words log handed shows. core-sound (latch_shown mode size c words log) shows.core;
+  sound = λ c words log handed shows.
+      either-sound c.queue (core-sound (latch_shown mode size c words log) shows.core);
   legal_shown = λ c words log handed shows. shows.core.legal;
   held_fits = λ c words log handed p has shows there.
       let none : has.held ≡ 0 = shows.none_held.at p has there in omega arith;

@@ -76,10 +76,10 @@ module _ (size : ℕ) (count : ℤ) (word : ℕ) (done : Bool) where
       keeps-smart step.delegates may paid = λ found w.
           same-latch false owed (append-nil log) refl (latch-delegate smart p k is found w.0)
       keeps-smart step.passes_over may paid = λ found w.
-          same-latch false owed (append-nil log) (leads q p k step.passes_over (Some found) w is.sound).1
+          same-latch false owed (append-nil log) (leads q p k step.passes_over (Some found) tt w is.sound).1
           (latch-pass_over smart p k is found w.0)
       keeps-smart step.ends_refused may paid = λ found w.
-          same-latch false owed (append-nil log) (leads q p k step.ends_refused (Some found) w is.sound).1
+          same-latch false owed (append-nil log) (leads q p k step.ends_refused (Some found) tt w is.sound).1
           (latch-meet_refused smart p k is found w.0 refl)
       keeps-smart step.starts_leaving may paid = λ found w.
           same-latch false owed (append-nil log) refl (latch-begin_cancel smart p k is found w.0 w.1)
@@ -92,19 +92,20 @@ module _ (size : ℕ) (count : ℤ) (word : ℕ) (done : Bool) where
       keeps-smart step.refuses_value may paid = λ found w.
           same-latch false owed (append-nil log) refl (latch-refuse_value smart p k is found w.0)
       keeps-smart (step.looks step.pends) may paid = λ found w.
-          same-latch false owed refl (leads q p k (step.looks step.pends) (Some found) w is.sound).1
+          same-latch false owed refl (leads q p k (step.looks step.pends) (Some found) tt w is.sound).1
           (latch-pending smart p k is found w.0 w.1)
       keeps-smart (step.looks step.grants) may paid = λ found w.
-          same-latch false owed refl (leads q p k (step.looks step.grants) (Some found) w is.sound).1
+          same-latch false owed refl (leads q p k (step.looks step.grants) (Some found) tt w is.sound).1
           (latch-granted smart p k is found w.0 w.1)
       keeps-smart (step.looks step.late) may paid = λ found w.
-          same-latch false owed refl (leads q p k (step.looks step.late) (Some found) w is.sound).1
+          same-latch false owed refl (leads q p k (step.looks step.late) (Some found) tt w is.sound).1
           (latch-late smart p k is found w.0 w.1)
       keeps-smart step.enters may paid = absurd may
       keeps-smart step.puts may paid = absurd may
       keeps-smart step.leaves_line may paid = absurd may
       keeps-smart step.ends_missed may paid = absurd (cc)
       keeps-smart step.leaves_at_once may paid = absurd (cc)
+      keeps-smart (step.in_sync e) may paid = absurd may
 
       pub smart-step : (step : QueueStep) (found : Option CoreCell) → IsLatchStep false step
           → IsOpenStep q step p k found → IsPaid (cost_of (row_of step)) owed p
@@ -258,6 +259,7 @@ module _ (size : ℕ) (count : ℤ) (word : ℕ) (done : Bool) where
       keeps-simple step.settles_owing may paid = absurd (cc)
       keeps-simple step.refuses may paid = absurd (cc)
       keeps-simple step.refuses_value may paid = absurd (cc)
+      keeps-simple (step.in_sync e) may paid = absurd may
 
       pub simple-step : (step : QueueStep) (found : Option CoreCell) → IsLatchStep true step
           → IsOpenStep q step p k found → IsPaid (cost_of (row_of step)) owed p

@@ -33,6 +33,7 @@ IsLatchStep simple step.settles_owing = simple ≡ false
 IsLatchStep simple step.refuses = simple ≡ false
 IsLatchStep simple step.refuses_value = simple ≡ false
 IsLatchStep simple (step.looks e) = Unit {0}
+IsLatchStep simple (step.in_sync e) = ⊥
 
 -- the entries of a step of the pass p at the number k
 abbrev pub step_entries : QueueStep → ℕ → ℕ → List LatchEntry
@@ -59,6 +60,7 @@ step_entries step.refuses_value p k = []
 step_entries (step.looks step.pends) p k = entry.LookPending p k ∷ []
 step_entries (step.looks step.grants) p k = entry.LookGranted p k ∷ []
 step_entries (step.looks step.late) p k = entry.Late p k ∷ []
+step_entries (step.in_sync e) p k = []
 
 abbrev pub cost_of : StepRow → Cost
 cost_of (at_counter row) = row.cost

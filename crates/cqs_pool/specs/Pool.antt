@@ -70,11 +70,12 @@ pool_object = record {
 -- a wait that leaves needs nobody's answer, a taker draws as it comes, and a put is paid with an
 -- element
 abbrev pub pool_manner : Manner
-pool_manner = record { leaving = passes_on; has_door = false; source = elements }
+pool_manner = record
+    { leaving = passes_on; has_door = false; source = elements; watches = false }
 
 abbrev pub pool_primitive : {T : Type 0} → ℕ → Primitive PoolEntry T
 pool_primitive size = record {
-  opening = record { size = size; mode = Smart };
+  opening = record { size = size; mode = Smart; sync = false; looks = 0 };
   shows = shows_pool size;
   manner = pool_manner;
   words = [];

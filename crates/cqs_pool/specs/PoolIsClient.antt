@@ -13,8 +13,9 @@ use Rattle.cqs_core.specs.declared.cells.CoreState.TheVariants as state
 use Rattle.cqs_core.specs.declared.doings.Doing.TheVariants as doing
 use Rattle.cqs_core.specs.Numbered.{IsIn, EachAt}
 use Rattle.cqs_core.specs.QueueOpening.{value_cell}
-use Rattle.cqs_core.specs.QueueSteps.{QueueStep, draws, enters, reaches, begins, puts, installs, takes, serves, leaves, delegates, passes_over, ends_refused, ends_missed, starts_leaving, leaves_line, leaves_at_once, settles, settles_owing, refuses, refuses_value, looks, pends, grants, late, row_of, StepRow, at_counter, at_cell, Gain, nothing, its_own, a_debt, Cost, no_cost, one_owed, one_element, IsOpenStep, payload_told}
+use Rattle.cqs_core.specs.QueueSteps.{QueueStep, draws, enters, reaches, begins, puts, installs, takes, serves, leaves, delegates, passes_over, ends_refused, ends_missed, starts_leaving, leaves_line, leaves_at_once, settles, settles_owing, refuses, refuses_value, looks, pends, grants, late, in_sync, row_of, StepRow, at_counter, at_cell, Gain, nothing, its_own, a_debt, Cost, no_cost, one_owed, one_element, IsOpenStep, payload_told}
 use Rattle.cqs_core.proofs.EachAtLemmas.{EachAt-write}
+use Rattle.cqs_core.proofs.EitherQueues.{either-sound}
 use Rattle.cqs_core.proofs.Places.{get-below, get-set_else}
 use Rattle.cqs_core.proofs.QueueOpens.{get-replicate}
 use Rattle.cqs_pool_object.specs.declared.entries.PoolEntry.{PoolEntry}
@@ -39,6 +40,7 @@ use Rattle.cqs_rule_laws.specs.Manner.{Suits}
 use Rattle.cqs_rule_laws.specs.Opened.{first_hidden, first_payload}
 use Rattle.cqs_rule_laws.specs.Views.{first_has}
 use Rattle.cqs_rule_laws.proofs.Lists.{has_left, has_right, without_has}
+use Rattle.cqs_rule.proofs.PlainQueues.{suits-none}
 use Rattle.cqs_pool.specs.Pool.{loads_of, holds_of, pool_shown, ShowsPool, in_hand, pool_manner, pool_object, pool_primitive}
 use Rattle.cqs_pool.specs.PoolUnrefused.{MakesNone, unrefused-row}
 use Rattle.cqs_pool.specs.PoolInHand.{elements-held, has-in, has-times, hold-at, hold-is, hold-kept, hold-set, holds-after, load-is, load-kept, loads-after, once-held}
@@ -68,6 +70,7 @@ silent-step refuses_value p k payload n apart = refl
 silent-step (looks pends) p k payload n apart = rw (ne_eqb p n (λ q. apart (sym q))) refl
 silent-step (looks grants) p k payload n apart = rw (ne_eqb p n (λ q. apart (sym q))) refl
 silent-step (looks late) p k payload n apart = rw (ne_eqb p n (λ q. apart (sym q))) refl
+silent-step (in_sync e) p k payload n apart = refl
 
 none-made : (t : QueueStep) → Suits pool_manner t → MakesNone (row_of t)
 none-made draws suits = tt
@@ -93,6 +96,7 @@ none-made refuses_value suits = absurd suits
 none-made (looks pends) suits = λ e. absurd (cc)
 none-made (looks grants) suits = λ e. absurd (cc)
 none-made (looks late) suits = λ e. absurd (cc)
+none-made (in_sync e) suits = absurd (suits-none pool_manner refl e suits)
 
 -- the steps that suit a pool are those that keep it
 suiting : (t : QueueStep) → Suits pool_manner t → IsPoolStep t
@@ -117,6 +121,7 @@ suiting settles_owing suits = tt
 suiting refuses suits = suits
 suiting refuses_value suits = suits
 suiting (looks e) suits = tt
+suiting (in_sync e) suits = suits-none pool_manner refl e suits
 
 -- the payload that the rule tells is the pool's
 paid-so : (row : StepRow) (size : ℕ) (c : Hidden) (log : List PoolEntry) (p k payload : ℕ)
@@ -377,6 +382,7 @@ begun-put one_element has payload begun suits paid = paid
 pub pool-client : {T : Type 0} (size : ℕ) → IsClient pool_object (pool_primitive {T = T} size)
 pool-client size = record {
   mode = refl;
+  sync = refl;
   begins = λ passes any few. begins-pool size passes any;
   steps = λ c t p k found has payload words log handed shows opens there paid suits low low'.
       steps-pool size c t p k found has payload log shows opens there paid suits;
@@ -392,7 +398,7 @@ pool-client size = record {
       shares-pool size c from to many mine theirs log shows apart has there enough;
   silent = silent-step;
   quiet = record { drawing = λ p k payload. refl; passing = λ p k payload. refl };
-  sound = λ c words log handed shows. shows.is_pool.sound;
+  sound = λ c words log handed shows. either-sound c.queue shows.is_pool.sound;
   legal_shown = λ c words log handed shows. shows.is_pool.legal;
   held_fits = λ c words log handed p has shows there.
       let none = shows.uncounted.at p has there in omega arith;

@@ -50,6 +50,8 @@ row_in (at_counter row) = record {
   brings = false;
   wait = wait_stays;
   gain = nothing;
+  collects = false;
+  settles = false;
 }
 
 abbrev row_at : QueueStep → CellRow
@@ -408,6 +410,7 @@ module _ (s : PoolShape) (p k e : ℕ) (is : IsPool s) (was : IsInOrder s) where
   orders step.leaves_at_once may paid = absurd may
   orders step.refuses may paid = absurd may
   orders step.refuses_value may paid = absurd may
+  orders (step.in_sync e) may paid = absurd may
 
   steps-order : (t : QueueStep) (found : Option CoreCell) → IsPoolStep t → IsOpenStep s.queue t p k found
       → IsPayload (row_of t) s p k e → IsInOrder (shape_after s t p k found e)

@@ -72,7 +72,7 @@ keeps-pool s step.enters p k e is may paid = λ found w.
     same-pool (record s {
       queue = move_queue (move_queue s.queue (move.turn p doing.Idle doing.Door)) (move.draw p k found);
       history = s.history ++ entry.Enter p k ∷ [];
-    }) _ _ refl (leads s.queue p k step.enters found w is.sound).1 at
+    }) _ _ refl (leads s.queue p k step.enters found tt w is.sound).1 at
 keeps-pool s step.reaches p k e is may paid = λ found w.
     let here : slice_get s.queue.cells s.queue.resumes ≡ found = ap (slice_get s.queue.cells) (sym w.1) ∙ w.2 in
     subst (λ j. IsPool (shape_after s step.reaches p j found e)) (sym w.1)
@@ -86,7 +86,7 @@ keeps-pool s step.puts p k e is may paid = λ found w.
       queue = move_queue (move_queue s.queue (move.turn p doing.Idle doing.Owes)) (move.reach p j found);
       history = s.history ++ entry.Put p e ∷ [];
     } in
-    same-pool (after k) _ _ refl (leads s.queue p k step.puts found w is.sound).1
+    same-pool (after k) _ _ refl (leads s.queue p k step.puts found tt w is.sound).1
     (subst (λ j. IsPool (after j)) (sym w.1) (draws.pool-put s p k is e found w.0 paid here))
 keeps-pool s step.installs p k e is may paid = λ found w.
     quiet s (record s { queue = move_queue s.queue (move.install p k found) }) _ refl refl
@@ -110,13 +110,14 @@ keeps-pool s step.delegates p k e is may paid = λ found w.
     }) _ refl refl (law.pool-delegate s p k is found w.0))
 keeps-pool s step.passes_over p k e is may paid = λ found w.
     quiet s (record s { queue = move_queue s.queue (move.pass_over p k found) }) _ refl
-    (leads s.queue p k step.passes_over (Some found) w is.sound).1 (law.pool-pass_over s p k is found w.0)
+    (leads s.queue p k step.passes_over (Some found) tt w is.sound).1 (law.pool-pass_over s p k is found w.0)
 keeps-pool s step.ends_refused p k e is may paid = λ found w. absurd (law.pool-none_refused s p k is found w.0)
 keeps-pool s step.leaves_line p k e is may paid = λ found w.
     same-pool (record s {
       queue = move_queue (move_queue s.queue (move.begin_cancel p k found)) (move.decide p k true);
       history = s.history ++ entry.Leave p k ∷ [];
-    }) _ _ refl (leads s.queue p k step.leaves_line (Some found) w is.sound).1 (law.pool-leave s p k is found w.0 w.1)
+    }) _ _ refl (leads s.queue p k step.leaves_line (Some found) tt w is.sound).1
+    (law.pool-leave s p k is found w.0 w.1)
 keeps-pool s step.settles p k e is may paid = λ found w.
     quiet s (record s { queue = move_queue s.queue (move.cancel p k found) }) _ refl refl
     (law.pool-cancel s p k is found w.0)
@@ -128,14 +129,14 @@ keeps-pool s step.settles_owing p k e is may paid = λ found w.
     }) _ refl refl (law.pool-cancel_owing s p k is found w.0))
 keeps-pool s (step.looks step.pends) p k e is may paid = λ found w.
     same-pool (record s { history = s.history ++ entry.LookPending p k ∷ [] }) _ _ refl
-    (leads s.queue p k (step.looks step.pends) (Some found) w is.sound).1 (looks.pool-pending s p k is found w.0 w.1)
+    (leads s.queue p k (step.looks step.pends) (Some found) tt w is.sound).1 (looks.pool-pending s p k is found w.0 w.1)
 keeps-pool s (step.looks step.grants) p k e is may paid = λ found w.
     subst (λ x. IsPool (shape_after s (step.looks step.grants) p k (Some found) x)) (sym paid)
     (same-pool (record s {
       holds = slice_set s.holds p (s.payloads k ∷ hold_of s.holds p);
       queue = move_queue s.queue (move.collect p k found);
       history = s.history ++ entry.LookGranted p k (s.payloads k) ∷ [];
-    }) _ _ refl (leads s.queue p k (step.looks step.grants) (Some found) w is.sound).1
+    }) _ _ refl (leads s.queue p k (step.looks step.grants) (Some found) tt w is.sound).1
     (looks.pool-granted s p k is found w.0 w.1))
 keeps-pool s (step.looks step.late) p k e is may paid = λ found w.
     subst (λ x. IsPool (shape_after s (step.looks step.late) p k (Some found) x)) (sym paid)
@@ -143,7 +144,7 @@ keeps-pool s (step.looks step.late) p k e is may paid = λ found w.
       holds = slice_set s.holds p (s.payloads k ∷ hold_of s.holds p);
       queue = move_queue s.queue (move.collect p k found);
       history = s.history ++ entry.Late p k (s.payloads k) ∷ [];
-    }) _ _ refl (leads s.queue p k (step.looks step.late) (Some found) w is.sound).1
+    }) _ _ refl (leads s.queue p k (step.looks step.late) (Some found) tt w is.sound).1
     (looks.pool-late s p k is found w.0 w.1))
 keeps-pool s step.begins p k e is may paid = absurd may
 keeps-pool s step.ends_missed p k e is may paid = absurd may
@@ -151,6 +152,7 @@ keeps-pool s step.starts_leaving p k e is may paid = absurd may
 keeps-pool s step.leaves_at_once p k e is may paid = absurd may
 keeps-pool s step.refuses p k e is may paid = absurd may
 keeps-pool s step.refuses_value p k e is may paid = absurd may
+keeps-pool s (step.in_sync watched) p k e is may paid = absurd may
 
 pub step-pool : (s : PoolShape) (t : QueueStep) (p k : ℕ) (found : Option CoreCell) (e : ℕ) → IsPool s
     → IsPoolStep t → IsOpenStep s.queue t p k found → IsPayload (row_of t) s p k e

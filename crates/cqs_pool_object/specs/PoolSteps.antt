@@ -34,6 +34,7 @@ IsPoolStep step.settles_owing = Unit {0}
 IsPoolStep step.refuses = ⊥
 IsPoolStep step.refuses_value = ⊥
 IsPoolStep (step.looks e) = Unit {0}
+IsPoolStep (step.in_sync e) = ⊥
 
 -- the entries of a step of the pass p at the number k, whose payload is this
 abbrev pub step_entries : QueueStep → ℕ → ℕ → ℕ → List PoolEntry
@@ -60,6 +61,7 @@ step_entries step.refuses_value p k e = []
 step_entries (step.looks step.pends) p k e = entry.LookPending p k ∷ []
 step_entries (step.looks step.grants) p k e = entry.LookGranted p k e ∷ []
 step_entries (step.looks step.late) p k e = entry.Late p k e ∷ []
+step_entries (step.in_sync s) p k e = []
 
 -- the elements that a pass has in hand
 abbrev pub hold_of : List (List ℕ) → ℕ → List ℕ

@@ -245,7 +245,7 @@ module _ {C E S : Type 0} (object : Object E) (primitive : C → Primitive E S) 
     last = ap (λ (f : Facts). f.last) m.saw.facts_are;
     number = m.number;
     state_is = m.state_is;
-    may = subst (λ z. MayFind z m.glimpse.state) at m.may;
+    may = subst (λ z. MayFind u.opening.sync z m.glimpse.state) at m.may;
     way = way-more 1 (min (rank m.glimpse.state + 1) 4) n v w (omega arith)
         (way-missed row 0 n k state v u w (way-searched n v u s) m);
   }
@@ -273,7 +273,7 @@ module _ {C E S : Type 0} (object : Object E) (primitive : C → Primitive E S) 
         last = ap (λ (f : Facts). f.last) m.saw.facts_are;
         number = m.number;
         state_is = m.state_is;
-        may = subst (λ z. MayFind z m.glimpse.state) at m.may;
+        may = subst (λ z. MayFind u.opening.sync z m.glimpse.state) at m.may;
         way = way-more (suc (min (rank t.glimpse.state + 1) 4)) (min (rank m.glimpse.state + 1) 4) n v w (omega arith)
             (way-missed row (min (rank t.glimpse.state + 1) 4) n k next v u w t.way m);
       }

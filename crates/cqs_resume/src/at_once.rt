@@ -1,6 +1,6 @@
 //! A resumption where waits leave at once: it ends at its first number.
 
-ghost use Rattle.std.specs.Prelude.{◌≡◌, ◌<◌, true};
+ghost use Rattle.std.specs.Prelude.{◌≡◌, ◌<◌, true, false};
 ghost use Rattle.cqs_core.specs.declared.doings.Doing.TheVariants as doing;
 ghost use Rattle.cqs_rule_laws.specs.Manner.{IsAtOnce, OwesFurther};
 ghost use Rattle.cqs_rule.specs.Owed.{HasUnder, under_payload, under_ticket};
@@ -34,6 +34,7 @@ pub fn begin_at_once<C: ClientWords>(
 ) -> EndedAtOnce
     requires belongs { IsOf queue.now pass.old }
     requires at_once { IsAtOnce (C.primitive (client_of queue.now)).manner.leaving }
+    requires unwatched { (C.primitive (client_of queue.now)).manner.watches ≡ false }
     requires plain { ShowsPlain C.primitive (C.primitive (client_of queue.now)).opening }
     requires several { OwesFurther (C.primitive (client_of queue.now)).manner.source }
     requires idle { (pass_view pass.old).facts.doing ≡ doing.Idle }
@@ -56,6 +57,7 @@ pub fn finish_at_once<C: ClientWords>(
 ) -> EndedAtOnce
     requires belongs { IsOf queue.now pass.old }
     requires at_once { IsAtOnce (C.primitive (client_of queue.now)).manner.leaving }
+    requires unwatched { (C.primitive (client_of queue.now)).manner.watches ≡ false }
     requires plain { ShowsPlain C.primitive (C.primitive (client_of queue.now)).opening }
     requires owes { HasUnder (pass_view pass.old).facts under }
     ensures belongs { IsOf queue.now pass.new }
@@ -85,6 +87,7 @@ fn meet_at_once<C: ClientWords>(
 ) -> EndedAtOnce
     requires belongs { IsOf queue.now pass.old }
     requires at_once { IsAtOnce (C.primitive (client_of queue.now)).manner.leaving }
+    requires unwatched { (C.primitive (client_of queue.now)).manner.watches ≡ false }
     requires plain { ShowsPlain C.primitive (C.primitive (client_of queue.now)).opening }
     requires ticket { (pass_view pass.old).facts.doing ≡ doing.Ticket number }
     requires reached { (pass_view pass.old).facts.reached ≡ reached }

@@ -1,6 +1,6 @@
 //! A resumption whose first number an idle pass has drawn.
 
-ghost use Rattle.std.specs.Prelude.{◌≡◌, true, Some};
+ghost use Rattle.std.specs.Prelude.{◌≡◌, true, Some, false};
 ghost use Rattle.cqs_core.specs.declared.doings.Doing.TheVariants as doing;
 ghost use Rattle.cqs_rule_laws.specs.Manner.{IsSmart};
 ghost use Rattle.cqs_rule.specs.Passes.{ample_of, pass_view, client_of, IsOf};
@@ -22,6 +22,7 @@ pub fn resume_from<C: Client>(
 ) -> Resumed
     requires belongs { IsOf queue.now pass.old }
     requires smart { IsSmart (C.primitive (client_of queue.now)).manner.leaving }
+    requires plain { (C.primitive (client_of queue.now)).manner.watches ≡ false }
     requires ticket { (pass_view pass.old).facts.doing ≡ doing.Ticket number }
     requires reached { (pass_view pass.old).facts.reached ≡ number }
     requires payload { (pass_view pass.old).facts.has.payload ≡ payload }

@@ -1,6 +1,6 @@
 //! The next of several resumptions that a pass owes: it is begun by drawing its number.
 
-ghost use Rattle.std.specs.Prelude.{◌≡◌, ◌<◌, true};
+ghost use Rattle.std.specs.Prelude.{◌≡◌, ◌<◌, true, false};
 ghost use Rattle.cqs_core.specs.declared.doings.Doing.TheVariants as doing;
 ghost use Rattle.cqs_rule_laws.specs.Manner.{IsSmart, OwesFurther};
 ghost use Rattle.cqs_rule.specs.Passes.{ample_of, pass_view, client_of, IsOf};
@@ -16,6 +16,7 @@ use cqs_rule::{Begins, Client, Pass, Queue, RESUMES_WORD};
 pub fn begin<C: Client>(queue: &Queue<C>, pass: &mut Pass<C>, payload: u32) -> Resumed
     requires belongs { IsOf queue.now pass.old }
     requires smart { IsSmart (C.primitive (client_of queue.now)).manner.leaving }
+    requires plain { (C.primitive (client_of queue.now)).manner.watches ≡ false }
     requires several { OwesFurther (C.primitive (client_of queue.now)).manner.source }
     requires idle { (pass_view pass.old).facts.doing ≡ doing.Idle }
     requires further { 0 < (pass_view pass.old).facts.has.further }

@@ -1,6 +1,6 @@
 //! One number of a resume: its cell is tried until a step is made there.
 
-ghost use Rattle.std.specs.Prelude.{◌≡◌};
+ghost use Rattle.std.specs.Prelude.{◌≡◌, false};
 ghost use Rattle.cqs_core.specs.declared.doings.Doing.TheVariants as doing;
 ghost use Rattle.cqs_rule_laws.specs.Manner.{IsSmart};
 ghost use Rattle.cqs_rule.specs.Passes.{pass_view, client_of, IsOf};
@@ -29,6 +29,7 @@ pub(crate) fn meet<C: Client>(
 ) -> Result<Resumed, u64>
     requires belongs { IsOf queue.now pass.old }
     requires smart { IsSmart (C.primitive (client_of queue.now)).manner.leaving }
+    requires plain { (C.primitive (client_of queue.now)).manner.watches ≡ false }
     requires ticket { (pass_view pass.old).facts.doing ≡ doing.Ticket number }
     requires reached { (pass_view pass.old).facts.reached ≡ reached }
     requires payload { (pass_view pass.old).facts.has.payload ≡ payload }

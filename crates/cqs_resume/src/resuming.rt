@@ -1,6 +1,6 @@
 //! The resume, and the end of one that was handed back.
 
-ghost use Rattle.std.specs.Prelude.{◌≡◌, ◌<◌, true, None};
+ghost use Rattle.std.specs.Prelude.{◌≡◌, ◌<◌, true, None, false};
 ghost use Rattle.cqs_core.specs.declared.doings.Doing.TheVariants as doing;
 ghost use Rattle.cqs_rule_laws.specs.Jumped.{AreOut};
 ghost use Rattle.cqs_rule_laws.specs.Manner.{IsSmart};
@@ -26,6 +26,7 @@ pub(crate) const MOST_PASSED_OVER: u32 = 64;
 pub fn resume<C: Client>(queue: &Queue<C>, pass: &mut Pass<C>, payload: u32) -> Resumed
     requires belongs { IsOf queue.now pass.old }
     requires smart { IsSmart (C.primitive (client_of queue.now)).manner.leaving }
+    requires plain { (C.primitive (client_of queue.now)).manner.watches ≡ false }
     requires owes { (pass_view pass.old).facts.doing ≡ doing.Owes }
     requires payload { (pass_view pass.old).facts.has.payload ≡ payload }
     ensures belongs { IsOf queue.now pass.new }
@@ -47,6 +48,7 @@ pub fn resume<C: Client>(queue: &Queue<C>, pass: &mut Pass<C>, payload: u32) -> 
 pub fn finish<C: Client>(queue: &Queue<C>, pass: &mut Pass<C>, under: Under) -> Resumed
     requires belongs { IsOf queue.now pass.old }
     requires smart { IsSmart (C.primitive (client_of queue.now)).manner.leaving }
+    requires plain { (C.primitive (client_of queue.now)).manner.watches ≡ false }
     requires owes { HasUnder (pass_view pass.old).facts under }
     ensures belongs { IsOf queue.now pass.new }
     ensures resumed { HasGoneOn most_passed_over (under_ticket under)
@@ -61,6 +63,7 @@ pub fn finish<C: Client>(queue: &Queue<C>, pass: &mut Pass<C>, under: Under) -> 
         |pass, under|
             requires belongs { IsOf queue.now pass }
             requires smart { IsSmart (C.primitive (client_of queue.now)).manner.leaving }
+            requires plain { (C.primitive (client_of queue.now)).manner.watches ≡ false }
             requires owes { HasUnder (pass_view pass).facts under }
         { finish_apart(queue, pass, under) },
     )
@@ -71,6 +74,7 @@ pub fn finish<C: Client>(queue: &Queue<C>, pass: &mut Pass<C>, under: Under) -> 
 fn finish_apart<C: Client>(queue: &Queue<C>, pass: Pass<C>, under: Under) -> (Pass<C>, Resumed)
     requires belongs { IsOf queue.now pass }
     requires smart { IsSmart (C.primitive (client_of queue.now)).manner.leaving }
+    requires plain { (C.primitive (client_of queue.now)).manner.watches ≡ false }
     requires owes { HasUnder (pass_view pass).facts under }
     ensures belongs { IsOf queue.now result.0 }
     ensures resumed { HasGoneOn most_passed_over (under_ticket under)
@@ -88,6 +92,7 @@ fn finish_apart<C: Client>(queue: &Queue<C>, pass: Pass<C>, under: Under) -> (Pa
 fn end<C: Client>(queue: &Queue<C>, pass: &mut Pass<C>, under: Under) -> Resumed
     requires belongs { IsOf queue.now pass.old }
     requires smart { IsSmart (C.primitive (client_of queue.now)).manner.leaving }
+    requires plain { (C.primitive (client_of queue.now)).manner.watches ≡ false }
     requires owes { HasUnder (pass_view pass.old).facts under }
     ensures belongs { IsOf queue.now pass.new }
     ensures resumed { HasGoneOn most_passed_over (under_ticket under)
@@ -123,6 +128,7 @@ pub(crate) fn go_on<C: Client>(
 ) -> Resumed
     requires belongs { IsOf queue.now pass.old }
     requires smart { IsSmart (C.primitive (client_of queue.now)).manner.leaving }
+    requires plain { (C.primitive (client_of queue.now)).manner.watches ≡ false }
     requires owes { (pass_view pass.old).facts.doing ≡ doing.Owes }
     requires payload { (pass_view pass.old).facts.has.payload ≡ payload }
     requires some { 0 < most }

@@ -37,7 +37,7 @@ use Rattle.cqs_rule_laws.specs.Ruled.{number_at}
 use Rattle.cqs_core.specs.SemaphoreNames.{entry_names}
 use Rattle.cqs_rule_laws.specs.Held.{held_of}
 use Rattle.cqs_rule_laws.proofs.Held.{held-is, held-set, held-kept}
-use Rattle.cqs_rule.proofs.Ticketless.{no-ticket, if-ticketless}
+use Rattle.cqs_rule.proofs.Ticketless.{no-ticket, if-ticketless, if-away, away-from}
 use Rattle.cqs_semaphore_client.proofs.LowLine.{state-above-line}
 use Rattle.cqs_words.specs.State.{count_in, is_above_zero, is_below_zero}
 use Rattle.cqs_semaphore_client.specs.UnbrokenSteps.{unbroken-more, unbroken-same}
@@ -337,6 +337,7 @@ take-moves permits p facts idle may = record {
   silent = λ n. take-silent p (is_above_zero n);
   door = λ n q. inr may;
   ticket = λ n j q. absurd (no-ticket _ (if-ticketless (is_above_zero n) doing.Idle doing.Door tt tt) j q);
+  away = λ n. away-from doing.Idle facts.doing _ idle tt (if-away (is_above_zero n) doing.Idle doing.Door tt tt);
   owed = λ n owing. refl;
   keeps = λ n none. absurd (some-entry (is_above_zero n) (entry.TakeNow p) (entry.TakeDoor p) none);
   owing = λ n none. absurd (some-entry (is_above_zero n) (entry.TakeNow p) (entry.TakeDoor p) none);
@@ -357,6 +358,8 @@ try-load-moves permits p facts idle = record {
   door = λ n q. absurd (no-door (is_above_zero n) (count_in n) q);
   ticket = λ n j q. absurd (no-ticket _ (if-ticketless (is_above_zero n) (doing.TryAt (count_in n)) doing.Idle tt tt) j
       q);
+  away = λ n. away-from doing.Idle facts.doing _ idle tt
+      (if-away (is_above_zero n) (doing.TryAt (count_in n)) doing.Idle tt tt);
   owed = λ n owing. refl;
   keeps = λ n none. refl;
   owing = λ n none. free-still (is_above_zero n) (count_in n) ∙ sym (ap is_owing idle);
@@ -386,6 +389,7 @@ try-swap-moves permits p facts saw at = record {
   silent = λ n. try-swap-silent p (where_found saw n);
   door = λ n q. absurd (no-door q);
   ticket = λ n j q. absurd (no-ticket doing.Idle tt j q);
+  away = λ n. away-from (doing.TryAt (count_in saw)) facts.doing doing.Idle at tt tt;
   owed = λ n owing. refl;
   keeps = λ n none. same-has (where_found saw n) none;
   owing = λ n none. sym (ap is_owing at);
@@ -417,6 +421,7 @@ give-moves permits p facts idle some = record {
   silent = λ n. give-silent p (is_below_zero n);
   door = λ n q. absurd (no-door (is_below_zero n) q);
   ticket = λ n j q. absurd (no-ticket _ (if-ticketless (is_below_zero n) doing.Owes doing.Idle tt tt) j q);
+  away = λ n. away-from doing.Idle facts.doing _ idle tt (if-away (is_below_zero n) doing.Owes doing.Idle tt tt);
   owed = λ n owing. absurd (not-owing facts.doing doing.Idle idle refl owing);
   keeps = λ n none. absurd (some-entry (is_below_zero n) (entry.GiveSent p) (entry.GiveFreed p) none);
   owing = λ n none. absurd (some-entry (is_below_zero n) (entry.GiveSent p) (entry.GiveFreed p) none);
@@ -491,6 +496,7 @@ decide-moves permits p facts k leaves = record {
   silent = λ n m apart. rw (ne_eqb p m (λ q. apart (sym q))) refl;
   door = λ n q. absurd (no-door (number_at facts.doing) (is_below_zero n) q);
   ticket = λ n j q. absurd (no-ticket (doing.Decided (number_at facts.doing) (is_below_zero n)) tt j q);
+  away = λ n. away-from (doing.Leaving k) facts.doing _ leaves tt tt;
   owed = λ n owing. refl;
   keeps = λ n none. absurd (some-entry (number_at facts.doing) none);
   owing = λ n none. absurd (some-entry (number_at facts.doing) none);

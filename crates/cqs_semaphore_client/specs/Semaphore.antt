@@ -53,10 +53,10 @@ semaphore_object = record {
   knows = λ opening has. Unit {0};
 }
 
--- a semaphore asks where a wait leaves, its passes come to a door, and it owes one resumption at a
--- time
+-- a semaphore asks where a wait leaves, its passes come to a door, it owes one resumption at a
+-- time, and its resumes don't watch
 abbrev pub semaphore_manner : Manner
-semaphore_manner = record { leaving = asks; has_door = true; source = owed }
+semaphore_manner = record { leaving = asks; has_door = true; source = owed; watches = false }
 
 -- Where there is one permit, the pass that holds it may open the one slot.
 abbrev pub opens_one : ℕ → Has → ℕ → Type 0
@@ -64,7 +64,7 @@ opens_one permits h k = (permits ≡ 1) × (k ≡ 0) × (0 < h.held)
 
 abbrev pub semaphore_primitive : {T : Type 0} → ℕ → Primitive Entry T
 semaphore_primitive permits = record {
-  opening = record { size = permits; mode = Smart };
+  opening = record { size = permits; mode = Smart; sync = false; looks = 0 };
   shows = shows_core permits;
   manner = semaphore_manner;
   words = state_word (pos permits) ∷ [];

@@ -16,6 +16,7 @@ use Rattle.cqs_core.specs.QueueSteps.{QueueStep, row_of, StepRow, at_counter, at
 use Rattle.cqs_core.specs.SemaphoreNames.{entry_names}
 use Rattle.cqs_core.specs.SemaphoreSteps.{IsSemaphoreStep, step_entries, shape_after, held_by, gain_of}
 use Rattle.cqs_core.proofs.SemaphoreSteps.{step-core}
+use Rattle.cqs_core.proofs.EitherQueues.{either-sound}
 use Rattle.cqs_core.specs.SemaphoreTable.{Shape}
 use Rattle.cqs_core.specs.SemaphoreShown.{IsCore, opening_shape}
 use Rattle.cqs_core.specs.SemaphoreRuns.{held_after}
@@ -33,6 +34,7 @@ use Rattle.cqs_rule_laws.specs.Manner.{Suits}
 use Rattle.cqs_rule_laws.specs.Opened.{first_hidden, four}
 use Rattle.cqs_semaphore_client.specs.Semaphore.{core_shown, one_more, opens_one, semaphore_manner, semaphore_object, semaphore_primitive}
 use Rattle.cqs_rule_laws.specs.Views.{first_has}
+use Rattle.cqs_rule.proofs.PlainQueues.{suits-none}
 use Rattle.cqs_semaphore_client.specs.UnbrokenSteps.{unbroken-none, unbroken-step}
 use Rattle.cqs_words.specs.State.{state_word, count_in}
 
@@ -60,6 +62,14 @@ silent-step step.refuses_value p k payload n apart = refl
 silent-step (step.looks step.pends) p k payload n apart = rw (ne_eqb p n (λ q. apart (sym q))) refl
 silent-step (step.looks step.grants) p k payload n apart = rw (ne_eqb p n (λ q. apart (sym q))) refl
 silent-step (step.looks step.late) p k payload n apart = rw (ne_eqb p n (λ q. apart (sym q))) refl
+silent-step (step.in_sync step.leaves_watched) p k payload n apart = refl
+silent-step (step.in_sync step.sees_value) p k payload n apart = refl
+silent-step (step.in_sync step.sees_taken) p k payload n apart = refl
+silent-step (step.in_sync step.breaks) p k payload n apart =
+    rw (ne_eqb p n (λ q. apart (sym q))) refl
+silent-step (step.in_sync step.takes_watched) p k payload n apart = refl
+silent-step (step.in_sync step.finds_broken) p k payload n apart =
+    rw (ne_eqb p n (λ q. apart (sym q))) refl
 
 -- what all hold after a step of this row
 held-after : (row : StepRow) (l : List Has) (p payload : ℕ) (has : Has) → slice_get l p ≡ Some has
@@ -108,6 +118,7 @@ suiting step.settles_owing suits = tt
 suiting step.refuses suits = tt
 suiting step.refuses_value suits = tt
 suiting (step.looks e) suits = tt
+suiting (step.in_sync e) suits = suits-none semaphore_manner refl e suits
 
 -- each of them is an event of the core, or none
 steps-core : (permits : ℕ) (c : Hidden) (t : QueueStep) (p k : ℕ) (found : Option CoreCell)
@@ -269,13 +280,14 @@ pub semaphore-client : {T : Type 0} (permits : ℕ) → 0 < permits → permits 
     → IsClient semaphore_object (semaphore_primitive {T = T} permits)
 semaphore-client permits some low = record {
   mode = refl;
+  sync = refl;
   begins = λ passes any few.
       record { core = begins-core permits passes some low any few; unbroken = unbroken-none };
   steps = λ c t p k found has payload words log handed shown opens there paid suits low low'.
       record {
         core = steps-core permits c t p k found has payload words log shown.core opens there suits
             low low';
-        unbroken = unbroken-step t p k log shown.unbroken;
+        unbroken = unbroken-step t p k log (suiting t suits) shown.unbroken;
       };
   counts = λ c p may words log handed shown.
       record { core = shown.core; unbroken = shown.unbroken };
@@ -296,7 +308,7 @@ semaphore-client permits some low = record {
       };
   silent = silent-step;
   quiet = record { drawing = λ p k payload. refl; passing = λ p k payload. refl };
-  sound = λ c words log handed shown. shown.core.sound;
+  sound = λ c words log handed shown. either-sound c.queue shown.core.sound;
   legal_shown = λ c words log handed shown.
       record { legal = shown.core.legal; unbroken = shown.unbroken };
   held_fits = λ c words log handed p has shown there.

@@ -1,18 +1,26 @@
 -- A suspend is its steps: a number is drawn, its cell is looked for, and an exchange there is made, perhaps after some
 -- that missed.
-use Rattle.std.proofs.Common.{◌≡◌, ℕ, suc, ◌+◌, ◌/◌, ◌≤◌, true, List, [], ◌∷◌, ◌++◌, length, Option, Some, None, sym, refl, ap, ◌∙◌, subst, ⊎_elim, inl, inr, append_assoc, length-append, arith}
-use Rattle.cqs_core.specs.QueueSteps.{QueueStep, row_of, CellRow, StepRow, at_counter, at_cell, payload_told, installs}
+use Rattle.std.proofs.Common.{◌≡◌, ◌≢◌, ◌⊎◌, ℕ, suc, ◌+◌, ◌/◌, ◌<◌, ◌≤◌, true, false, List, [], ◌∷◌, ◌++◌, length, Option, Some, None, sym, refl, ap, ◌∙◌, subst, ⊎_elim, inl, inr, append_assoc, length-append, arith}
+use Rattle.cqs_core.specs.declared.cells.CoreState.{CoreState}
+use Rattle.cqs_core.specs.declared.cells.CoreState.TheVariants as state
+use Rattle.cqs_core.specs.QueueCells.{rank}
+use Rattle.cqs_core.specs.QueueSound.{IsUntaken}
+use Rattle.cqs_core.specs.QueueStages.{MayMeet}
+use Rattle.cqs_core.specs.QueueSteps.{QueueStep, row_of, CellRow, StepRow, at_counter, at_cell, payload_told, installs, takes}
 use Rattle.cqs_words.specs.declared.cell.CellState.{CellState}
+use Rattle.cqs_words.specs.declared.cell.CellState.TheVariants as shown
 use Rattle.cqs_rule_laws.specs.declared.view.Facts.{Facts}
 use Rattle.cqs_rule_laws.specs.declared.view.Glimpse.{Glimpse}
+use Rattle.cqs_rule_laws.specs.declared.view.Opening.{Opening}
 use Rattle.cqs_rule_laws.specs.declared.view.Sighting.{Sighting}
 use Rattle.cqs_rule_laws.specs.declared.view.Sighting.TheVariants.{Cell}
 use Rattle.cqs_rule_laws.specs.declared.view.Spare.{Spare}
 use Rattle.cqs_rule_laws.specs.declared.view.View.{View}
-use Rattle.cqs_rule_laws.specs.Exchanges.{HasCell}
+use Rattle.cqs_rule_laws.specs.Exchanges.{HasCell, SinceLast, IsFoundSince}
 use Rattle.cqs_rule_laws.specs.Facts.{facts_worked, facts_missed}
 use Rattle.cqs_rule_laws.specs.Lists.{Has}
 use Rattle.cqs_rule_laws.specs.Object.{Object, Primitive}
+use Rattle.cqs_rule_laws.specs.Ruled.{shown_state}
 use Rattle.cqs_rule_laws.specs.Saw.{Saw, WasFound}
 use Rattle.cqs_rule_laws.proofs.Calls.{called-by, called-then, saw-then}
 use Rattle.cqs_rule_laws.proofs.Lists.{has_right}
@@ -168,6 +176,47 @@ module _ {C E S : Type 0} (object : Object E) (primitive : C → Primitive E S) 
       → Has k w.facts.waits
   waits-here tries k payload v w e =
       subst (Has k) (sym (ap (λ (f : Facts). f.waits) e.facts_are)) (has_right k v.facts.waits (k ∷ []) (inl refl))
+
+-- a cell whose suspend is still to come is empty, or has a value
+untaken-two : (s : CoreState) → IsUntaken s → (s ≡ state.Empty) ⊎ (s ≡ state.Value)
+untaken-two state.Empty is = inl refl
+untaken-two state.Value is = inr refl
+untaken-two state.Waiter is = absurd is
+untaken-two state.Taken is = absurd is
+untaken-two state.Broken is = absurd is
+untaken-two state.Resumed is = absurd is
+untaken-two state.Cancelling is = absurd is
+untaken-two state.Delegated is = absurd is
+untaken-two state.Cancelled is = absurd is
+untaken-two state.Refused is = absurd is
+
+-- once it isn't empty, it has the value
+stays-value : (first then : CoreState) → IsUntaken first → first ≢ state.Empty → IsUntaken then
+    → (then ≡ first) ⊎ (rank first < rank then) → then ≡ state.Value
+stays-value first then may filled may' since = by (untaken-two first may) (untaken-two then may') since
+  where
+    by : (first ≡ state.Empty) ⊎ (first ≡ state.Value) → (then ≡ state.Empty) ⊎ (then ≡ state.Value)
+        → (then ≡ first) ⊎ (rank first < rank then) → then ≡ state.Value
+    by (inl empty) now since = absurd (filled empty)
+    by (inr value) (inr now) since = now
+    by (inr value) (inl empty) (inl same) = same ∙ value
+    by (inr value) (inl empty) (inr more) =
+        let one : rank first ≡ 1 = ap rank value in
+        let none : rank then ≡ 0 = ap rank empty in absurd (omega arith)
+
+-- In a queue that isn't synchronous, a suspend whose first exchange misses the empty cell takes the value.
+pub never-misses : {C E S : Type 0} (object : Object E) (primitive : C → Primitive E S) (k : ℕ) (found last : CellState)
+    (v u w : View E S) → v.opening.sync ≡ false → MissedBy object primitive (row_of installs) k v found u
+    → MissedBy object primitive (row_of takes) k u last w → last ≢ shown.Value → ⊥
+never-misses object primitive k found last v u w plain m n other =
+    let plain' : u.opening.sync ≡ false = ap (λ (o : Opening). o.sync) m.saw.same.opening ∙ plain in
+    let first : IsUntaken m.glimpse.state = subst (λ b. MayMeet b m.glimpse.state) plain m.may in
+    let then : IsUntaken n.glimpse.state = subst (λ b. MayMeet b n.glimpse.state) plain' n.may in
+    let since : IsFoundSince n.glimpse m.glimpse =
+    subst (SinceLast n.glimpse) (ap (λ (f : Facts). f.last) m.saw.facts_are) n.since in
+    let gone : (n.glimpse.state ≡ m.glimpse.state) ⊎ (rank m.glimpse.state < rank n.glimpse.state) =
+    ⊎_elim (λ same. inl same.0) (λ more. inr more) (since.since (n.number ∙ sym m.number)) in
+    other (sym n.state_is ∙ ap shown_state (stays-value m.glimpse.state n.glimpse.state first (m.other tt) then gone))
 
 -- what a pass can make it can make still, as it has the slots that it had
 pub still-extends : {C S E : Type 0} {g : Ghosts C S E} (q : Queue C S E) (p next : Pass C S E g) → CanExtend q p

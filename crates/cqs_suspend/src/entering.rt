@@ -15,6 +15,7 @@ use cqs_rule::{ClientWords, Enters, Pass, Queue, SUSPENDS_WORD};
 /// under it or takes the value that its resume left. A spare slot is needed as by `suspend`.
 pub fn enter<C: ClientWords>(queue: &Queue<C>, pass: &mut Pass<C>) -> Suspended
     requires belongs { IsOf queue.now pass.old }
+    requires plain { (C.primitive (client_of queue.now)).manner.watches ≡ false }
     requires spare { CanExtend queue.now pass.old }
     requires doorless { (C.primitive (client_of queue.now)).manner.has_door ≡ false }
     requires idle { (pass_view pass.old).facts.doing ≡ doing.Idle }

@@ -1,9 +1,9 @@
 //! The suspend.
 
-ghost use Rattle.std.specs.Prelude.{◌≡◌};
+ghost use Rattle.std.specs.Prelude.{◌≡◌, false};
 ghost use Rattle.cqs_core.specs.declared.doings.Doing.TheVariants as doing;
 ghost use Rattle.cqs_rule.specs.Claims.{CanExtend};
-ghost use Rattle.cqs_rule.specs.Passes.{pass_view, IsOf};
+ghost use Rattle.cqs_rule.specs.Passes.{pass_view, client_of, IsOf};
 ghost use Rattle.cqs_suspend.specs.Suspends.{Suspends};
 
 use crate::placing::place;
@@ -25,6 +25,7 @@ pub enum Suspended {
 #[inline(always)]
 pub fn suspend<C: ClientWords>(queue: &Queue<C>, pass: &mut Pass<C>) -> Suspended
     requires belongs { IsOf queue.now pass.old }
+    requires plain { (C.primitive (client_of queue.now)).manner.watches ≡ false }
     requires spare { CanExtend queue.now pass.old }
     requires door { (pass_view pass.old).facts.doing ≡ doing.Door }
     ensures belongs { IsOf queue.now pass.new }

@@ -3,7 +3,8 @@ use Rattle.cqs_core.specs.QueueSteps.{enters, installs, takes}
 use Rattle.cqs_rule_laws.specs.Lists.{Has}
 use Rattle.cqs_rule.specs.Passes.{pass_view}
 use Rattle.cqs_rule.proofs.Places.{knows-saw}
-use Rattle.cqs_suspend.proofs.Steps.{still-extends, way-searched, way-missed-by, ends-by, ends-at, waits-here}
+use Rattle.cqs_rule.proofs.PlainQueues.{plain-opening}
+use Rattle.cqs_suspend.proofs.Steps.{never-misses, still-extends, way-searched, way-missed-by, ends-by, ends-at, waits-here}
 use Rattle.cqs_suspend.proofs.entering.enter.Goals as goal
 
 pub wait_of-requires-clause-wait : goal.wait_of-requires-clause-wait
@@ -57,3 +58,12 @@ pub place-at-requires-clause-spare : goal.place-at-requires-clause-spare
 place-at-requires-clause-spare g c =
     still-extends c.args.queue.now c.args.pass.now c.add_table-number.new.pass c.requires.spare
     (ap (λ f. f.spare_slots) c.add_table-number.ensures.saw.facts_are)
+
+pub unreachable-requires : goal.unreachable-requires
+unreachable-requires g c =
+    let C = g.C.ClientWords in
+    let missed = c.in-Err-take_value.ensures.missed in
+    never-misses C.object C.primitive _ _ _ _ _ _
+    (plain-opening c.args.queue.now c.place-at.new.pass g.met.C.ClientWords.keeps c.place-at.ensures.belongs
+    c.requires.plain)
+    c.in-Err.ensures.missed missed.0 missed.1

@@ -102,7 +102,10 @@ fn time_served(
 /// other rounds would lie in memory, too.
 #[inline(never)]
 pub fn time_waiting<R: Clock + AllocGlobal>(rt: &R, count: u64) -> anyhow::Result<u64> {
-    let Ok((semaphore, mut pass)) = Semaphore::new(rt.alloc(), 1, CONFIG) else {
+    // A segment has cells for 32 of them.
+    let slots = (count / 32).min(65_000) as u32 + 16;
+    let config = Config { slots, ..CONFIG };
+    let Ok((semaphore, mut pass)) = Semaphore::new(rt.alloc(), 1, config) else {
         anyhow::bail!("no memory for the semaphore");
     };
     let Ok(Acquired::Now(_)) = semaphore.acquire(&mut pass) else {

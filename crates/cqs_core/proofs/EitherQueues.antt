@@ -31,6 +31,7 @@ either-sound q sound = record {
   watches = λ p k does. absurd (sound.passes.at p (doing.Watching k) does);
   lone = λ p r k one other. absurd (sound.passes.at p (doing.Watching k) one);
   watched = λ e. absurd (cc);
+  undelegated = λ e. absurd (cc);
 }
 
 -- and back
@@ -61,13 +62,26 @@ HasValue state.Delegated = ⊥
 HasValue state.Cancelled = ⊥
 HasValue state.Refused = ⊥
 
+abbrev IsDelegated : CoreState → Type 0
+IsDelegated state.Delegated = Unit {0}
+IsDelegated state.Empty = ⊥
+IsDelegated state.Waiter = ⊥
+IsDelegated state.Value = ⊥
+IsDelegated state.Taken = ⊥
+IsDelegated state.Broken = ⊥
+IsDelegated state.Resumed = ⊥
+IsDelegated state.Cancelling = ⊥
+IsDelegated state.Cancelled = ⊥
+IsDelegated state.Refused = ⊥
+
 -- Who watches then watches a cell that holds a value or held it, and is the only one to. A watched cell stays so, or
--- its watcher made the step. A value that is there then is watched.
+-- its watcher made the step. A value that is there then is watched. In a synchronous queue none is left to a canceller.
 record KeepsWatch (sync : Bool) (works goes : Stage) (finds made : CoreState) : Type 0 where
   goes_on : Watches goes → IsWatched made
   alone : Watches goes → Watches works ⊎ (IsWatched finds → ⊥)
   stays : IsWatched finds → IsWatched made ⊎ Watches works
   left : sync ≡ true → HasValue made → Watches goes ⊎ (HasValue finds × (Watches works → ⊥))
+  undelegated : sync ≡ true → IsDelegated made → ⊥
 
 abbrev RowKeeps : Bool → StepRow → Type 0
 RowKeeps sync (at_counter row) = Watches row.works_at → ⊥
@@ -75,12 +89,14 @@ RowKeeps sync (at_cell row) = KeepsWatch sync row.works_at row.goes_to row.finds
 
 -- a step at a cell that nobody watches, by a pass that doesn't come to watch it
 unwatched : (sync : Bool) (works goes : Stage) (finds made : CoreState) → (Watches goes → ⊥) → (IsWatched finds → ⊥)
-    → (sync ≡ true → HasValue made → ⊥) → KeepsWatch sync works goes finds made
-unwatched sync works goes finds made away none new = record {
+    → (sync ≡ true → HasValue made → ⊥) → (sync ≡ true → IsDelegated made → ⊥)
+    → KeepsWatch sync works goes finds made
+unwatched sync works goes finds made away none new whole = record {
   goes_on = λ w. absurd (away w);
   alone = λ w. absurd (away w);
   stays = λ w. absurd (none w);
   left = λ e v. absurd (new e v);
+  undelegated = whole;
 }
 
 row-keeps : (sync : Bool) (s : QueueStep) → MayBeMade sync (card_of s).makers → RowKeeps sync (row_of s)
@@ -89,60 +105,68 @@ row-keeps sync step.enters may = λ w. w
 row-keeps sync step.reaches may = λ w. w
 row-keeps sync step.begins may = λ w. w
 row-keeps sync step.puts may = λ w. w
-row-keeps sync step.installs may = unwatched sync _ _ _ _ (λ w. w) (λ w. w) (λ e v. v)
+row-keeps sync step.installs may = unwatched sync _ _ _ _ (λ w. w) (λ w. w) (λ e v. v) (λ e d. d)
 row-keeps sync step.takes may = record {
   goes_on = λ w. absurd w;
   alone = λ w. absurd w;
   stays = λ w. inl tt;
   left = λ e v. absurd v;
+  undelegated = λ e d. d;
 }
-row-keeps sync step.serves may = unwatched sync _ _ _ _ (λ w. w) (λ w. w) (λ e v. v)
-row-keeps sync step.leaves may = unwatched sync _ _ _ _ (λ w. w) (λ w. w) (λ e v. absurd (cc (e, may)))
-row-keeps sync step.delegates may = unwatched sync _ _ _ _ (λ w. w) (λ w. w) (λ e v. v)
-row-keeps sync step.passes_over may = unwatched sync _ _ _ _ (λ w. w) (λ w. w) (λ e v. v)
-row-keeps sync step.ends_refused may = unwatched sync _ _ _ _ (λ w. w) (λ w. w) (λ e v. v)
-row-keeps sync step.ends_missed may = unwatched sync _ _ _ _ (λ w. w) (λ w. w) (λ e v. v)
-row-keeps sync step.starts_leaving may = unwatched sync _ _ _ _ (λ w. w) (λ w. w) (λ e v. v)
-row-keeps sync step.leaves_line may = unwatched sync _ _ _ _ (λ w. w) (λ w. w) (λ e v. v)
-row-keeps sync step.leaves_at_once may = unwatched sync _ _ _ _ (λ w. w) (λ w. w) (λ e v. v)
-row-keeps sync step.settles may = unwatched sync _ _ _ _ (λ w. w) (λ w. w) (λ e v. v)
-row-keeps sync step.settles_owing may = unwatched sync _ _ _ _ (λ w. w) (λ w. w) (λ e v. v)
-row-keeps sync step.refuses may = unwatched sync _ _ _ _ (λ w. w) (λ w. w) (λ e v. v)
-row-keeps sync step.refuses_value may = unwatched sync _ _ _ _ (λ w. w) (λ w. w) (λ e v. v)
-row-keeps sync (step.looks step.pends) may = unwatched sync _ _ _ _ (λ w. w) (λ w. w) (λ e v. v)
-row-keeps sync (step.looks step.grants) may = unwatched sync _ _ _ _ (λ w. w) (λ w. w) (λ e v. v)
-row-keeps sync (step.looks step.late) may = unwatched sync _ _ _ _ (λ w. w) (λ w. w) (λ e v. v)
+row-keeps sync step.serves may = unwatched sync _ _ _ _ (λ w. w) (λ w. w) (λ e v. v) (λ e d. d)
+row-keeps sync step.leaves may =
+    unwatched sync _ _ _ _ (λ w. w) (λ w. w) (λ e v. absurd (cc (e, may))) (λ e d. d)
+row-keeps sync step.delegates may =
+    unwatched sync _ _ _ _ (λ w. w) (λ w. w) (λ e v. v) (λ e d. absurd (cc (e, may)))
+row-keeps sync step.passes_over may = unwatched sync _ _ _ _ (λ w. w) (λ w. w) (λ e v. v) (λ e d. d)
+row-keeps sync step.ends_refused may = unwatched sync _ _ _ _ (λ w. w) (λ w. w) (λ e v. v) (λ e d. d)
+row-keeps sync step.ends_missed may = unwatched sync _ _ _ _ (λ w. w) (λ w. w) (λ e v. v) (λ e d. d)
+row-keeps sync step.starts_leaving may = unwatched sync _ _ _ _ (λ w. w) (λ w. w) (λ e v. v) (λ e d. d)
+row-keeps sync step.leaves_line may = unwatched sync _ _ _ _ (λ w. w) (λ w. w) (λ e v. v) (λ e d. d)
+row-keeps sync step.leaves_at_once may = unwatched sync _ _ _ _ (λ w. w) (λ w. w) (λ e v. v) (λ e d. d)
+row-keeps sync step.settles may = unwatched sync _ _ _ _ (λ w. w) (λ w. w) (λ e v. v) (λ e d. d)
+row-keeps sync step.settles_owing may = unwatched sync _ _ _ _ (λ w. w) (λ w. w) (λ e v. v) (λ e d. d)
+row-keeps sync step.refuses may = unwatched sync _ _ _ _ (λ w. w) (λ w. w) (λ e v. v) (λ e d. d)
+row-keeps sync step.refuses_value may = unwatched sync _ _ _ _ (λ w. w) (λ w. w) (λ e v. v) (λ e d. d)
+row-keeps sync (step.looks step.pends) may = unwatched sync _ _ _ _ (λ w. w) (λ w. w) (λ e v. v) (λ e d. d)
+row-keeps sync (step.looks step.grants) may = unwatched sync _ _ _ _ (λ w. w) (λ w. w) (λ e v. v) (λ e d. d)
+row-keeps sync (step.looks step.late) may = unwatched sync _ _ _ _ (λ w. w) (λ w. w) (λ e v. v) (λ e d. d)
 row-keeps sync (step.in_sync step.leaves_watched) may = record {
   goes_on = λ w. tt;
   alone = λ w. inr (λ i. i);
   stays = λ w. absurd w;
   left = λ e v. inl tt;
+  undelegated = λ e d. d;
 }
 row-keeps sync (step.in_sync step.sees_value) may = record {
   goes_on = λ w. tt;
   alone = λ w. inl tt;
   stays = λ w. inl tt;
   left = λ e v. inl tt;
+  undelegated = λ e d. d;
 }
 row-keeps sync (step.in_sync step.sees_taken) may = record {
   goes_on = λ w. absurd w;
   alone = λ w. absurd w;
   stays = λ w. inl tt;
   left = λ e v. absurd v;
+  undelegated = λ e d. d;
 }
 row-keeps sync (step.in_sync step.breaks) may = record {
   goes_on = λ w. absurd w;
   alone = λ w. absurd w;
   stays = λ w. inr tt;
   left = λ e v. absurd v;
+  undelegated = λ e d. d;
 }
 row-keeps sync (step.in_sync step.takes_watched) may = record {
   goes_on = λ w. absurd w;
   alone = λ w. absurd w;
   stays = λ w. inl tt;
   left = λ e v. absurd v;
+  undelegated = λ e d. d;
 }
-row-keeps sync (step.in_sync step.finds_broken) may = unwatched sync _ _ _ _ (λ w. w) (λ w. w) (λ e v. v)
+row-keeps sync (step.in_sync step.finds_broken) may = unwatched sync _ _ _ _ (λ w. w) (λ w. w) (λ e v. v) (λ e d. d)
 
 -- the stage of a pass that watches
 watching-is : (at : Stage) (k j : ℕ) → doing_at at k ≡ doing.Watching j → Watches at × (j ≡ k)
@@ -180,6 +204,8 @@ record WatchKept (sync : Bool) (q : Queue) : Type 0 where
       → slice_get q.doing r ≡ Some (doing.Watching k) → p ≡ r
   watched : sync ≡ true → (k : ℕ) (cell : CoreCell) → slice_get q.cells k ≡ Some cell
       → cell.state ≡ state.Value → (p : ℕ) × (slice_get q.doing p ≡ Some (doing.Watching k))
+  undelegated : sync ≡ true → (k : ℕ) (cell : CoreCell) → slice_get q.cells k ≡ Some cell
+      → cell.state ≢ state.Delegated
 
 module _ (sync : Bool) (q : Queue) (p k : ℕ) (is : IsSoundEither sync q) where
   apart-or : (m n : ℕ) → (m ≡ n) ⊎ (m ≢ n)
@@ -284,6 +310,13 @@ module _ (sync : Bool) (q : Queue) (p k : ℕ) (is : IsSoundEither sync q) where
           (λ (other : w.0 ≢ p). (w.0, else w.0 other ∙ w.1))
           (apart-or w.0 p))
           (apart-or j k);
+      undelegated = λ on j cell finds at. ⊎_elim
+          (λ (same : j ≡ k).
+          let its : cell ≡ cell_after row found = same_Some cell (cell_after row found)
+          (sym finds ∙ (ap (slice_get d.cells) same ∙ cell-here)) in
+          keeps.undelegated on (subst IsDelegated (sym at ∙ (ap (λ (c : CoreCell). c.state) its ∙ made)) tt))
+          (λ (apart : j ≢ k). is.undelegated on j cell (sym (cell-else j apart) ∙ finds) at)
+          (apart-or j k);
     }
       where
         -- another pass that watches what this one does is this one
@@ -322,13 +355,17 @@ module _ (sync : Bool) (q : Queue) (p k : ℕ) (is : IsSoundEither sync q) where
 
   -- A STEP AT A COUNTER: a cell is made, or gets its owner.
 
+  -- the cell is new and empty, or was in this state before
+  abbrev WasThere : ℕ → CoreCell → Type 0
+  WasThere j cell =
+      (cell.state ≡ state.Empty) ⊎ ((c : CoreCell) × (slice_get q.cells j ≡ Some c) × (c.state ≡ cell.state))
+
   module _ (cells : List CoreCell) (e : Doing) (from : Doing)
       (does : slice_get q.doing p ≡ Some from)
       (before : (j : ℕ) → from ≡ doing.Watching j → ⊥) (after : (j : ℕ) → e ≡ doing.Watching j → ⊥)
       (on : (j : ℕ) (cell : CoreCell) → slice_get q.cells j ≡ Some cell
       → (c : CoreCell) × (slice_get cells j ≡ Some c) × (c.state ≡ cell.state))
-      (back : (j : ℕ) (cell : CoreCell) → slice_get cells j ≡ Some cell → cell.state ≡ state.Value
-      → (c : CoreCell) × (slice_get q.cells j ≡ Some c) × (c.state ≡ state.Value)) where
+      (back : (j : ℕ) (cell : CoreCell) → slice_get cells j ≡ Some cell → WasThere j cell) where
     other-doing : (r : ℕ) → r ≢ p → slice_get (set q.doing p e) r ≡ slice_get q.doing r
     other-doing r a = get-set_else q.doing p r e (λ z. a (sym z))
 
@@ -350,36 +387,39 @@ module _ (sync : Bool) (q : Queue) (p k : ℕ) (is : IsSoundEither sync q) where
           let c = on j h.cell h.there in
           record { cell = c.0; there = c.1; at = subst IsWatched (sym c.2) h.at };
       lone = λ r u j one other. is.lone r u j (watched-before r j one) (watched-before u j other);
-      watched = λ sync_is j cell finds at.
-          let c = back j cell finds at in
-          let w = is.watched sync_is j c.0 c.1 c.2 in
+      watched = λ sync_is j cell finds at. ⊎_elim
+          (λ (empty : cell.state ≡ state.Empty). absurd (cc (empty, at)))
+          (λ (c : (c : CoreCell) × (slice_get q.cells j ≡ Some c) × (c.state ≡ cell.state)).
+          let w = is.watched sync_is j c.0 c.1 (c.2 ∙ at) in
           ⊎_elim
           (λ (mine : w.0 ≡ p). absurd (before j (same_Some from (doing.Watching j)
           (sym does ∙ subst (λ z. slice_get q.doing z ≡ Some (doing.Watching j)) mine w.1))))
           (λ (other : w.0 ≢ p). (w.0, other-doing w.0 other ∙ w.1))
-          (apart-or w.0 p);
+          (apart-or w.0 p))
+          (back j cell finds);
+      undelegated = λ sync_is j cell finds at. ⊎_elim
+          (λ (empty : cell.state ≡ state.Empty). absurd (cc (empty, at)))
+          (λ (c : (c : CoreCell) × (slice_get q.cells j ≡ Some c) × (c.state ≡ cell.state)).
+          is.undelegated sync_is j c.0 c.1 (c.2 ∙ at))
+          (back j cell finds);
     }
 
   same-cells-on : (j : ℕ) (cell : CoreCell) → slice_get q.cells j ≡ Some cell
       → (c : CoreCell) × (slice_get q.cells j ≡ Some c) × (c.state ≡ cell.state)
   same-cells-on j cell finds = (cell, finds, refl)
 
-  same-cells-back : (j : ℕ) (cell : CoreCell) → slice_get q.cells j ≡ Some cell → cell.state ≡ state.Value
-      → (c : CoreCell) × (slice_get q.cells j ≡ Some c) × (c.state ≡ state.Value)
-  same-cells-back j cell finds at = (cell, finds, at)
+  same-cells-back : (j : ℕ) (cell : CoreCell) → slice_get q.cells j ≡ Some cell → WasThere j cell
+  same-cells-back j cell finds = inr (cell, finds, refl)
 
   pushed-on : (new : CoreCell) (j : ℕ) (cell : CoreCell) → slice_get q.cells j ≡ Some cell
       → (c : CoreCell) × (slice_get (q.cells ++ new ∷ []) j ≡ Some c) × (c.state ≡ cell.state)
   pushed-on new j cell finds = (cell, get-append_left q.cells (new ∷ []) j cell finds, refl)
 
   pushed-back : (new : CoreCell) → new.state ≡ state.Empty → (j : ℕ) (cell : CoreCell)
-      → slice_get (q.cells ++ new ∷ []) j ≡ Some cell → cell.state ≡ state.Value
-      → (c : CoreCell) × (slice_get q.cells j ≡ Some c) × (c.state ≡ state.Value)
-  pushed-back new empty j cell finds at = ⊎_elim
-      (λ (old : slice_get q.cells j ≡ Some cell). (cell, old, at))
-      (λ (is_new : cell ≡ new).
-      let both : state.Empty ≡ state.Value = sym empty ∙ (ap (λ (c : CoreCell). c.state) (sym is_new) ∙ at) in
-      absurd (cc))
+      → slice_get (q.cells ++ new ∷ []) j ≡ Some cell → WasThere j cell
+  pushed-back new empty j cell finds = ⊎_elim
+      (λ (old : slice_get q.cells j ≡ Some cell). inr (cell, old, refl))
+      (λ (is_new : cell ≡ new). inl (ap (λ (c : CoreCell). c.state) is_new ∙ empty))
       (push-back q.cells new j cell finds)
 
   owned-on : (found new : CoreCell) → slice_get q.cells k ≡ Some found → new.state ≡ found.state → (j : ℕ)
@@ -396,17 +436,16 @@ module _ (sync : Bool) (q : Queue) (p k : ℕ) (is : IsSoundEither sync q) where
       (apart-or j k)
 
   owned-back : (found new : CoreCell) → slice_get q.cells k ≡ Some found → new.state ≡ found.state → (j : ℕ)
-      (cell : CoreCell) → slice_get (set q.cells k new) j ≡ Some cell → cell.state ≡ state.Value
-      → (c : CoreCell) × (slice_get q.cells j ≡ Some c) × (c.state ≡ state.Value)
-  owned-back found new there same j cell finds at = ⊎_elim
-      (λ (e : j ≡ k). (
+      (cell : CoreCell) → slice_get (set q.cells k new) j ≡ Some cell → WasThere j cell
+  owned-back found new there same j cell finds = ⊎_elim
+      (λ (e : j ≡ k). inr (
         found,
         ap (slice_get q.cells) e ∙ there,
-        sym same ∙ (ap (λ (c : CoreCell). c.state) (same_Some new cell
+        sym same ∙ ap (λ (c : CoreCell). c.state) (same_Some new cell
             (sym (get-set_here q.cells k found new there)
-            ∙ (ap (slice_get (set q.cells k new)) (sym e) ∙ finds))) ∙ at),
+            ∙ (ap (slice_get (set q.cells k new)) (sym e) ∙ finds))),
       ))
-      (λ (a : j ≢ k). (cell, sym (get-set_else q.cells k j new (λ z. a (sym z))) ∙ finds, at))
+      (λ (a : j ≢ k). inr (cell, sym (get-set_else q.cells k j new (λ z. a (sym z))) ∙ finds, refl))
       (apart-or j k)
 
   at-watches : (at : Stage) (j : ℕ) → (Watches at → ⊥) → doing_at at k ≡ doing.Watching j → ⊥
@@ -449,6 +488,7 @@ either-turned sync q p from to is does before after reads plain =
       watches = kept.watches;
       lone = kept.lone;
       watched = kept.watched;
+      undelegated = kept.undelegated;
     }
 
 -- EACH STEP.
@@ -484,4 +524,5 @@ step-either sync q s p k found may is opens =
       watches = kept.watches;
       lone = kept.lone;
       watched = kept.watched;
+      undelegated = kept.undelegated;
     }

@@ -15,7 +15,8 @@ use Rattle.cqs_core.specs.SemaphoreTable.{Shape, Stepped, step, take_row, try_lo
 use Rattle.cqs_core.specs.SemaphoreCores.{IsEitherCore}
 use Rattle.cqs_core.proofs.EitherKeeps.{KeepsCore, keeps-none, keeps-answers, keeps-if, keeps-found}
 use Rattle.cqs_core.proofs.EitherRows.{take-now, take-door, try-busy, try-loaded, try-got, try-contended, install-waiter, install-took, give-sent, give-freed, reach-number, meet-waiter, meet-empty, meet-cancelling, meet-cancelled, meet-refused, leave-waiter, leave-late, settle-cancelled, settle-owing, settle-refused, settle-ended, decide-passes, decide-refuses, look-pending, look-granted}
-use Rattle.cqs_core.proofs.EitherBreaks.{draw-number, install-broken, meet-watches, watch-ends, break-value}
+use Rattle.cqs_core.proofs.EitherDraws.{draw-number}
+use Rattle.cqs_core.proofs.EitherBreaks.{install-broken, meet-watches, watch-ends, break-value}
 
 -- what the table's tests of the state word say
 below-true : (a b : ℤ) → int_lt a b ≡ true → a <ℤ b

@@ -67,6 +67,7 @@ pub mod EitherFrame
 pub mod EitherSteps
 pub mod EitherRows
 pub mod SpoiledLists
+pub mod EitherDraws
 pub mod EitherBreaks
 pub mod EitherKeeps
 pub mod EitherTable
@@ -75,6 +76,9 @@ pub mod EitherRuns
 pub mod EitherFacts
 pub mod EitherQueues
 pub mod EitherCells
+pub mod EitherSettled
+pub mod SyncStepSettled
+pub mod EitherStepSettled
 pub mod PlainRows
 pub mod Broken
 pub mod RunsKeep

@@ -10,7 +10,7 @@ use Rattle.cqs_core.specs.SemaphoreTable.{Shape, gains, loses, adds, takes, reco
 use Rattle.cqs_core.specs.SemaphoreShown.{IsCore}
 use Rattle.cqs_core.proofs.EitherFacts.{either-core, plain-core}
 use Rattle.cqs_core.proofs.EitherRows as either
-use Rattle.cqs_core.proofs.EitherBreaks as drawn
+use Rattle.cqs_core.proofs.EitherDraws as drawn
 
 -- Take, a permit is free
 pub take-now : (s : Shape) (p : ℕ) → IsCore s → slice_get s.queue.doing p ≡ Some doing.Idle

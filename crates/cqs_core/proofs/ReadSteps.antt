@@ -79,7 +79,7 @@ plain-row (step.in_sync step.breaks) plain = absurd plain
 plain-row (step.in_sync step.takes_watched) plain = absurd plain
 plain-row (step.in_sync step.finds_broken) plain = absurd plain
 
-unwatched : (at : Stage) (k : ℕ) → WatchesNot at → unwatching (doing_at at k) ≡ doing_at at k
+pub unwatched : (at : Stage) (k : ℕ) → WatchesNot at → unwatching (doing_at at k) ≡ doing_at at k
 unwatched stage.watching k none = absurd none
 unwatched stage.idle k none = refl
 unwatched stage.door k none = refl
@@ -120,7 +120,7 @@ module _ (q : Queue) where
   does-plain at p k none does = does-read q p (doing_at at k) does ∙ ap Some (unwatched at k none)
 
   -- a step is open in the reading, too
-  open-read : (row : StepRow) (p k : ℕ) (found : Option CoreCell) → IsPlainRow row → IsOpenRow q row p k found
+  pub open-read : (row : StepRow) (p k : ℕ) (found : Option CoreCell) → IsPlainRow row → IsOpenRow q row p k found
       → IsOpenRow v row p k (option_map unbroken_cell found)
   open-read (at_counter row) p k found plain (does, here, finds) = (
     does-plain row.works_at p k plain does,
@@ -162,7 +162,7 @@ module _ (q : Queue) where
       by (Some s) is = sym (intact-read s (collected_by row.collects found.collected) is)
 
   -- and it makes the same there
-  after-read : (row : StepRow) (p k : ℕ) (found : Option CoreCell) → IsPlainRow row → IsOpenRow q row p k found
+  pub after-read : (row : StepRow) (p k : ℕ) (found : Option CoreCell) → IsPlainRow row → IsOpenRow q row p k found
       → row_after row v p k (option_map unbroken_cell found) ≡ as_unbroken (row_after row q p k found)
   after-read (at_counter row) p k found plain opens = by row.counter
     where

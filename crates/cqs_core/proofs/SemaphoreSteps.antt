@@ -18,6 +18,7 @@ use Rattle.cqs_core.specs.SemaphoreShown.{IsCore}
 use Rattle.cqs_core.specs.SemaphoreCores.{IsEitherCore}
 use Rattle.cqs_core.specs.SemaphoreTable.{Shape, last_number, moves, writes, turns, gains, records}
 use Rattle.cqs_core.proofs.EitherBreaks as either
+use Rattle.cqs_core.proofs.EitherDraws as drawn
 use Rattle.cqs_core.proofs.EitherRows as either-row
 use Rattle.cqs_core.proofs.OpenRows.{WhereOpen, where-open}
 use Rattle.cqs_core.proofs.QueueRows.{stays-found, pends-still, grants-collects}
@@ -181,7 +182,7 @@ keeps-sync s step.draws p k core sync is low low' = λ found w.
     let here : slice_get s.queue.cells s.queue.suspends ≡ found =
     ap (slice_get s.queue.cells) (sym w.1) ∙ w.2 in
     subst (λ (z : ℕ × Option CoreCell). IsEitherCore (shape_after s step.draws p z.0 z.1)) (λ i. (sym w.1 i, here i))
-    (either.draw-number s p core w.0 low)
+    (drawn.draw-number s p core w.0 low)
 keeps-sync s step.reaches p k core sync is low low' = λ found w.
     let here : slice_get s.queue.cells s.queue.resumes ≡ found = ap (slice_get s.queue.cells) (sym w.1) ∙ w.2 in
     subst (λ (z : ℕ × Option CoreCell). IsEitherCore (shape_after s step.reaches p z.0 z.1)) (λ i. (sym w.1 i, here i))

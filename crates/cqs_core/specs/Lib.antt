@@ -11,6 +11,7 @@ pub mod QueueOpening
 pub mod QueueSettled
 pub mod QueueStepSettled
 pub mod QueueEither
+pub mod QueueEitherSettled
 pub mod QueueUnmade
 pub mod QueueAsRefused
 pub mod QueueAsUnbroken

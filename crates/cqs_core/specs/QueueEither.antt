@@ -1,5 +1,5 @@
 -- What holds of the queue part between any two steps, where it is synchronous or isn't.
-use Rattle.std.specs.Prelude.{◌≡◌, ℕ, Bool, true, false, Option, Some, slice_get}
+use Rattle.std.specs.Prelude.{◌≡◌, ◌≢◌, ℕ, Bool, true, false, Option, Some, slice_get}
 use Rattle.cqs_core.specs.declared.cells.CoreCell.{CoreCell}
 use Rattle.cqs_core.specs.declared.cells.CoreState.TheVariants as state
 use Rattle.cqs_core.specs.declared.doings.Doing.TheVariants as doing
@@ -17,8 +17,8 @@ pub record HoldsWatched (q : Queue) (k : ℕ) : Type 0 where
   pub at : IsWatched cell.state
 
 -- Read with its broken cells as unbroken, the queue is sound; one that isn't synchronous reads as
--- itself. A pass watches a value that is there, or was taken; no two watch the same one; and in a
--- synchronous queue each value that is there is watched.
+-- itself. A pass watches a value that is there, or was taken; no two watch the same one. In a
+-- synchronous queue each value that is there is watched, and none is left to a canceller.
 pub record IsSoundEither (sync : Bool) (q : Queue) : Type 0 where
   pub reads : IsSound (as_unbroken q)
   pub plain : sync ≡ false → IsUnbroken q
@@ -27,6 +27,8 @@ pub record IsSoundEither (sync : Bool) (q : Queue) : Type 0 where
       → slice_get q.doing r ≡ Some (doing.Watching k) → p ≡ r
   pub watched : sync ≡ true → (k : ℕ) (cell : CoreCell) → slice_get q.cells k ≡ Some cell
       → cell.state ≡ state.Value → (p : ℕ) × (slice_get q.doing p ≡ Some (doing.Watching k))
+  pub undelegated : sync ≡ true → (k : ℕ) (cell : CoreCell) → slice_get q.cells k ≡ Some cell
+      → cell.state ≢ state.Delegated
 
 -- clients of either kind make a step, or those of one kind alone
 abbrev pub MayBeMade : Bool → Makers → Type 0

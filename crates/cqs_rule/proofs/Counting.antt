@@ -551,6 +551,7 @@ module _ {C S E : Type 0} {g : Ghosts C S E} where
         cells = ap (λ (z : View E S). z.cells) is ∙ (same.cells ∙ b.cells);
         mode = b.mode;
         ample = b.ample;
+        looks = b.looks;
         live = live-left u (pass_view next) c.heads u.facts.spare_slots [] c.left g.object live;
         opening = ap (λ (z : View E S). z.opening) is ∙ (same.opening ∙ b.opening);
         alone = alone-left u (pass_view next) c.heads u.facts.spare_slots [] c.left g.primitive alone;

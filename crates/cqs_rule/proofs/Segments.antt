@@ -180,6 +180,7 @@ module _ {C S E : Type 0} {g : Ghosts C S E} where
         cells = ap (λ (z : View E S). z.cells) is ∙ b.cells;
         mode = b.mode;
         ample = b.ample;
+        looks = b.looks;
         live = live-left (pass_view p) (pass_view next) heads spares duties left g.object b.live;
         opening = ap (λ (z : View E S). z.opening) is ∙ b.opening;
         alone = alone-left (pass_view p) (pass_view next) heads spares duties left g.primitive b.alone;

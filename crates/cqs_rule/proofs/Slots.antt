@@ -2,7 +2,10 @@
 use Rattle.std.proofs.Common.{◌≡◌, ◌∙◌, ℕ, List, [], ◌∷◌, Option, None, Some, ap, sym, subst}
 use Rattle.atomic_table.specs.Table.{rest}
 use Rattle.cqs_rule_laws.specs.declared.view.View.{View}
-use Rattle.cqs_rule_laws.specs.SlotSteps.{TookOut, PutBack, Swapped, LayIn, HandedIn}
+use Rattle.cqs_rule_laws.specs.SlotSteps.{TookOut, PutBack, Swapped, LayIn, LayLast, KnowsLast, HandedIn}
+use Rattle.cqs_rule_laws.specs.Given.{IsLastGiven, times_given}
+use Rattle.cqs_rule_laws.specs.Object.{Object}
+use Rattle.cqs_rule_laws.proofs.Given.{values-stay}
 use Rattle.cqs_rule_laws.proofs.Lists.{prefix-then}
 use Rattle.cqs_rule_laws.proofs.Swaps.{swapped-then}
 
@@ -38,6 +41,16 @@ module _ {E S : Type 0} (k : ℕ) (v u : View E S) (items : List (ℕ × Option 
           seen = (back-by put).more;
           last = λ e. same ∙ took.last e;
         }
+
+    -- and it is of the last entry seen that gave the slot away
+    pub last-by : PutsBack → (found : Option S) → items ≡ (k, found) ∷ rest items → (object : Object E)
+        → KnowsLast object k u → LayLast object k found v w
+    last-by put found was object knows unlaid y is =
+        let same : found ≡ took.value = ap value_in (sym was ∙ took.items_are) in
+        let last : IsLastGiven object.gives k y u.seen u.handed =
+        knows y (sym (took.last unlaid) ∙ (sym same ∙ is)) in
+        subst (λ l. IsLastGiven object.gives k y l w.handed) (ap (λ (z : View E S). z.seen) took.is)
+        (values-stay k u.handed w.handed (times_given object.gives u.seen k) y (back-by put).more last)
 
     -- the first value was put there
     pub fill-by : PutBack me.0.laid me.0 w → v.facts.open_slot ≡ None → Swapped v.laid v w

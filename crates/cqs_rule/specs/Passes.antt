@@ -41,6 +41,10 @@ module _ {C S E : Type 0} where
   abbrev pub limit_of : Queue C S E → ℕ
   limit_of q = q.limit
 
+  -- how often a resume that watches looks at what it left, before it breaks the cell
+  abbrev pub looks_of : Queue C S E → ℕ
+  looks_of q = q.looks
+
   -- whether its slots are enough for all segments that can be wanted
   abbrev pub ample_of : Queue C S E → Bool
   ample_of q = q.ample
@@ -67,4 +71,5 @@ module _ {C S E : Type 0} {g : Ghosts C S E} where
         (g.primitive q.table.shared.key.client).values) q.table.shared.key.passes q.segment_slots
     pub live : IsLive g.object p.seat.me.0
     pub opening : p.seat.me.0.opening ≡ (g.primitive q.table.shared.key.client).opening
+    pub looks : (g.primitive q.table.shared.key.client).opening.looks ≡ q.looks
     pub alone : TellsAlone g.primitive p.seat.me.0

@@ -9,7 +9,7 @@ use Rattle.cqs_rule_laws.specs.Events.{Event, Moves, SlotsStay, Moved}
 use Rattle.cqs_rule_laws.specs.Exchanges.{CrossedBy}
 use Rattle.cqs_rule_laws.specs.Layout.{client_place}
 use Rattle.cqs_rule_laws.specs.Slots.{laid_in}
-use Rattle.cqs_rule_laws.specs.SlotSteps.{GivesAway, HandedIn}
+use Rattle.cqs_rule_laws.specs.SlotSteps.{GivesAway, HandedBy}
 use Rattle.cqs_rule_laws.specs.Loads.{LoadStep}
 use Rattle.cqs_rule.specs.Counting.{LoadedThen, ThenCounted}
 use Rattle.cqs_rule.specs.Passes.{pass_view, client_of, slots_of}
@@ -22,10 +22,10 @@ module _ {C S E : Type 0} {g : Ghosts C S E} where
       Moves g.object (g.primitive (client_of q)) event made (pass_view p).number (pass_view p).facts
       i f
 
-  -- and leaves the pass the slots that it has laid something into
+  -- and leaves the pass the slots that it has laid something into, and gives none away
   abbrev pub MayKeep : Queue C S E → Pass C S E g → Event E → (ℕ → Bool) → Type 0
   MayKeep q p event made =
-      SlotsStay (g.primitive (client_of q)) (slots_of q) event made (pass_view p)
+      SlotsStay g.object (g.primitive (client_of q)) (slots_of q) event made (pass_view p)
 
   -- the pass may open this slot
   abbrev pub IsOpener : Queue C S E → Pass C S E g → ℕ → Type 0
@@ -34,12 +34,12 @@ module _ {C S E : Type 0} {g : Ghosts C S E} where
   -- by the event it gives this slot away, in which a value lies, and no other
   abbrev pub MayGive : Queue C S E → Pass C S E g → Event E → (ℕ → Bool) → ℕ → Type 0
   MayGive q p event made slot =
-      GivesAway (g.primitive (client_of q)) (slots_of q) event made slot (pass_view p)
+      GivesAway g.object (g.primitive (client_of q)) (slots_of q) event made slot (pass_view p)
 
   -- the value that lay there was handed in
   abbrev pub HasGiven : ℕ → Pass C S E g → Pass C S E g → Type 0
   HasGiven slot p p' = (y : S) → laid_in (pass_view p).laid slot ≡ Some (Some y)
-      → HandedIn slot y (pass_view p) (pass_view p')
+      → HandedBy g.object slot y (pass_view p) (pass_view p')
 
   -- Such a step was made, and found n: the word was so at the end of what the pass has seen before
   -- its own entries.

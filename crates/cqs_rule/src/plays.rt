@@ -103,7 +103,7 @@ pub(crate) struct TakingOut<C, K> {
 }
 
 impl<C: ClientWords, K: Numbered> Telling<C> for TakingOut<C, K> {
-    ghost told = { took_out K.slot };
+    ghost told = { took_out C.object K.slot };
 }
 
 /// The load by which it is put back.

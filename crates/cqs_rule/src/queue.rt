@@ -48,6 +48,8 @@ pub struct Queue<C: ClientWords> {
     // Whether the slots are enough for all segments that can be wanted, which then are made.
     ample: bool,
     mode: CancelMode,
+    // How often a resume looks at the value that it left, in a synchronous queue.
+    looks: u32,
     parked: Parked,
     ghost passes_are: { table.shared.key.passes ≡ passes },
     ghost few_passes: { passes ≤ 32 },

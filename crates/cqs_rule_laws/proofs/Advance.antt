@@ -19,7 +19,8 @@ use Rattle.cqs_rule_laws.specs.Hidden.{Hidden}
 use Rattle.cqs_rule_laws.specs.Layout.{client_words}
 use Rattle.cqs_rule_laws.specs.Lists.{Has, IsDistinct, NamesOnly, IsPrefix}
 use Rattle.cqs_rule_laws.specs.Views.{all_own, weight, grown, Apart, IsSpent, SpentHasNone, WasCrew, first_facts}
-use Rattle.cqs_rule_laws.specs.Ruled.{Ruled, Knows, Sees, Stands, CountersShow, CellsShow, IdleWords, HasRoom, DoorMayDraw, number_at, IsKept, Rests, HasSecond, cell_count, IsFinal, IsOver}
+use Rattle.cqs_rule_laws.specs.Given.{times_given, IsAware, AreAware}
+use Rattle.cqs_rule_laws.specs.Ruled.{Ruled, RuledAhead, Knows, Sees, Stands, CountersShow, CellsShow, IdleWords, HasRoom, DoorMayDraw, number_at, IsKept, Rests, HasSecond, cell_count, IsFinal, IsOver}
 use Rattle.cqs_slots.specs.Slots.{Segments, IsLater, settled_in}
 use Rattle.cqs_rule_laws.specs.Manner.{IsSmart}
 use Rattle.cqs_rule_laws.specs.Settling.{times}
@@ -33,6 +34,7 @@ use Rattle.cqs_rule_laws.proofs.Staying.{OthersStay}
 use Rattle.cqs_rule_laws.proofs.Segments.{knows-later}
 use Rattle.cqs_rule_laws.proofs.Spares.{spares-kept}
 use Rattle.cqs_rule_laws.specs.Slots.{Shelf}
+use Rattle.cqs_rule_laws.proofs.Given.{tied-on, aware-whole, same-homes}
 use Rattle.cqs_rule_laws.proofs.Shelves.{Keeps, shelf-set}
 use Rattle.cqs_rule_laws.specs.Inside.{IsInside}
 use Rattle.cqs_rule_laws.specs.Object.{Object, Primitive}
@@ -161,10 +163,21 @@ module _ {E S : Type 0} (object : Object E) (primitive : Primitive E S) (passes 
   abbrev pub R : State (Option S) (View E S) → Type 0
   R = Ruled object primitive passes limit
 
+  -- values may have been handed in ahead of a step whose entries give their slots away
+  abbrev pub Before : (ℕ → ℕ) → State (Option S) (View E S) → Type 0
+  Before ahead = RuledAhead object primitive passes limit ahead
+
+  -- the entries give no slot away that another view's pass may open
+  abbrev pub OthersAware : State (Option S) (View E S) → ℕ → List E → List E → Type 0
+  OthersAware s p log es = (j : ℕ) (u : View E S) → get_elem? s.views j ≡ some u → 0 < u.weight
+      → ((n : ℕ) → Has n (all_own u) → n ≢ p)
+      → IsAware object.gives primitive.opens (length s.homes) log u
+      → IsAware object.gives primitive.opens (length s.homes) (log ++ es) u
+
   -- what a step of the view v has to show: the word i becomes x, what is hidden becomes d, the history grows by the
   -- entries
-  pub record Turned (s : State (Option S) (View E S)) (r : R s) (v : View E S) (i x : ℕ) (d : Hidden)
-      (es : List E) (facts : Facts) : Type 0 where
+  pub record Turned {ahead : ℕ → ℕ} (s : State (Option S) (View E S)) (r : Before ahead s) (v : View E S) (i x : ℕ)
+      (d : Hidden) (es : List E) (facts : Facts) : Type 0 where
     pub crew : slice_index (slice_set s.words i x) 0 ≡ slice_index s.words 0
     pub counters : CountersShow d.queue (slice_set s.words i x)
     pub now : Segments
@@ -188,6 +201,8 @@ module _ {E S : Type 0} (object : Object E) (primitive : Primitive E S) (passes 
     pub payload_fits : facts.has.payload < 2 ^ 20
     pub slots : Keeps primitive.opens v facts
     pub draws : d.queue.resumes + draws_in v.facts.found ≡ r.hidden.queue.resumes + draws_in facts.found
+    pub given : (k : ℕ) → k < length s.homes → times_given object.gives es k ≡ ahead k
+    pub aware : OthersAware s v.number r.log es
 
   -- a view that keeps its numbers is set
   still-own : (views : List (View E S)) (id : ℕ) (v w : View E S) → get_elem? views id ≡ some v → all_own w ≡ all_own v
@@ -234,8 +249,8 @@ module _ {E S : Type 0} (object : Object E) (primitive : Primitive E S) (passes 
       })
 
   -- the view may take slots from their homes, or put them back
-  pub advance-on : (s : State (Option S) (View E S)) (r : R s) (id : ℕ) (cs : List (ℕ × Option S)) (v : View E S)
-      (i x : ℕ)
+  pub advance-on : {ahead : ℕ → ℕ} (s : State (Option S) (View E S)) (r : Before ahead s) (id : ℕ)
+      (cs : List (ℕ × Option S)) (v : View E S) (i x : ℕ)
       (d : Hidden) (es : List E) (facts : Facts) (crew : ℕ) (alone : Bool) (drawn : Drawn) (out : Option ℕ)
       (laid : List (ℕ × Option S)) (act : Act (Option S))
       → get_elem? s.views id ≡ some v → v.weight ≡ 1 → WasCrew r.made r.live crew → (alone ≡ true → r.live ≡ 1)
@@ -244,7 +259,7 @@ module _ {E S : Type 0} (object : Object E) (primitive : Primitive E S) (passes 
       → Shelf primitive.opens r.handed r.live (homes_after s.homes cs act)
       (set s.views id (slotted v facts (r.log ++ es) r.handed crew alone drawn out laid))
       → R (stepped s i x id cs (slotted v facts (r.log ++ es) r.handed crew alone drawn out laid) act)
-  advance-on s r id cs v i x d es facts crew alone drawn out laid act here one found single knows t shelf =
+  advance-on {ahead} s r id cs v i x d es facts crew alone drawn out laid act here one found single knows t shelf =
       let w : View E S = slotted v facts (r.log ++ es) r.handed crew alone drawn out laid in
       let k = r.each_view id v here (omega arith) in
       let own : Has v.number v.own = k.own in
@@ -331,6 +346,16 @@ module _ {E S : Type 0} (object : Object E) (primitive : Primitive E S) (passes 
           sees = inl refl;
         };
         shelf = shelf;
+        tied = λ k low. tied-on object.gives (length s.homes) ahead r.log es r.handed t.given r.tied k
+            (subst (λ n. k < n) (same-homes s.homes cs act) low);
+        aware = subst (λ n. AreAware object.gives primitive.opens n (r.log ++ es) (set s.views id w))
+            (sym (same-homes s.homes cs act))
+            (set_all (λ j u. 0 < u.weight
+            → IsAware object.gives primitive.opens (length s.homes) (r.log ++ es) u) s.views id w
+            (λ live. aware-whole object.gives primitive.opens (length s.homes) (r.log ++ es) w one refl)
+            (λ j u apart e live. t.aware j u e live
+            (λ n h same. apart (r.apart j id u v v.number e here (subst (λ m. Has m (all_own u)) same h) mine))
+            (r.aware j u e live)));
         slots = r.slots;
         segments = t.now;
         noted = set_all (λ j u. IsPrefix u.seen (r.log ++ es)) s.views id w ([], sym (append-nil _))
@@ -341,7 +366,8 @@ module _ {E S : Type 0} (object : Object E) (primitive : Primitive E S) (passes 
             (λ j u apart e. knows-later r.slots r.segments t.now u t.later (r.each_segment j u e));
       }
 
-  pub advance : (s : State (Option S) (View E S)) (r : R s) (id : ℕ) (cs : List (ℕ × Option S)) (v : View E S) (i x : ℕ)
+  pub advance : {ahead : ℕ → ℕ} (s : State (Option S) (View E S)) (r : Before ahead s) (id : ℕ)
+      (cs : List (ℕ × Option S)) (v : View E S) (i x : ℕ)
       (d : Hidden) (es : List E) (facts : Facts) (crew : ℕ) (alone : Bool) (drawn : Drawn)
       → get_elem? s.views id ≡ some v → v.weight ≡ 1 → WasCrew r.made r.live crew → (alone ≡ true → r.live ≡ 1)
       → (alone ≡ true → d.queue.resumes + drawn.own ≡ drawn.all + draws_in facts.found)
@@ -355,7 +381,8 @@ module _ {E S : Type 0} (object : Object E) (primitive : Primitive E S) (passes 
       (record { live = omega arith; laid = refl; keeps = t.slots }) r.shelf)
 
   -- what the step tells the pass
-  pub saw : (s : State (Option S) (View E S)) (r : R s) (id : ℕ) (v : View E S) (es : List E) (facts : Facts)
+  pub saw : {ahead : ℕ → ℕ} (s : State (Option S) (View E S)) (r : Before ahead s) (id : ℕ) (v : View E S)
+      (es : List E) (facts : Facts)
       → get_elem? s.views id ≡ some v → v.weight ≡ 1 → Saw object v facts es (grown v facts (r.log ++ es) r.handed)
   saw s r id v es facts here one =
       let k = r.each_view id v here (omega arith) in record {
@@ -384,7 +411,8 @@ module _ {E S : Type 0} (object : Object E) (primitive : Primitive E S) (passes 
       }
 
   -- what holds of its view, as of each live pass's
-  pub live : (s : State (Option S) (View E S)) (r : R s) (id : ℕ) (v : View E S) (es : List E) (facts : Facts)
+  pub live : {ahead : ℕ → ℕ} (s : State (Option S) (View E S)) (r : Before ahead s) (id : ℕ) (v : View E S)
+      (es : List E) (facts : Facts)
       → get_elem? s.views id ≡ some v → 0 < v.weight → object.legal primitive.opening (r.log ++ es)
       → NamesOnly object.names v.number es
       → facts.has.held < 2 ^ 32 → facts.has.held ≤ object.most primitive.opening

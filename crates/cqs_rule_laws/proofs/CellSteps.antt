@@ -28,7 +28,7 @@ use Rattle.cqs_rule_laws.specs.declared.view.View.{View}
 use Rattle.cqs_rule_laws.specs.declared.view.Facts.{Facts}
 use Rattle.cqs_rule_laws.specs.declared.view.Glimpse.{Glimpse}
 use Rattle.cqs_rule_laws.specs.declared.view.Opening.{Opening}
-use Rattle.cqs_rule_laws.specs.Client.{IsClient, IsPayload, KeepsSlot}
+use Rattle.cqs_rule_laws.specs.Client.{IsClient, IsPayload, KeepsSlot, gives_away}
 use Rattle.cqs_rule_laws.specs.Drawn.{TellsCome}
 use Rattle.cqs_rule_laws.specs.Exchanges.{IsOwnWait, payload_left, Exchanges, MayExchange, IsCrossing, FoundCell, SinceLast, HasCell, Crossed, CrossedBy, crossed}
 use Rattle.cqs_rule_laws.specs.declared.view.Has.{Has}
@@ -50,6 +50,7 @@ use Rattle.cqs_rule_laws.proofs.ToRetire.{leaves-same}
 use Rattle.cqs_rule_laws.proofs.CellsStand.{CellAt, cell-at, set-cell, place-low}
 pub use Rattle.cqs_rule_laws.proofs.WordOf.{shown-injective, word_of-injective}
 use Rattle.cqs_rule_laws.proofs.Advance.{Turned}
+use Rattle.cqs_rule_laws.proofs.GivenBeside.{aware-none}
 use Rattle.cqs_rule_laws.proofs.Cells.{installed-drawn, idle-stands}
 use Rattle.cqs_rule_laws.proofs.Lists.{length_without}
 use Rattle.cqs_rule_laws.proofs.WordStays.{looks-to, found-so}
@@ -416,6 +417,9 @@ module _ {E S : Type 0} (object : Object E) (primitive : Primitive E S) (passes 
             (λ j o. subst (λ z. primitive.opens (has_after object.gains z payload f.has) j) is
             (client.slots.steps st f.has payload j suits (subst (λ z. KeepsSlot z payload j) (sym is) tt) o));
         draws = ap (λ m. c.queue.resumes + m) (sym (draws-cell f.found k n));
+        given = λ j low. client.slots.gives st p k payload j suits ∙ ap (λ z. gives_away z payload j) is;
+        aware = aware-none object primitive passes limit s p r.log es
+            (λ j low. client.slots.gives st p k payload j suits ∙ ap (λ z. gives_away z payload j) is);
         now = r.segments;
         later = later-same r.segments;
         settles = settled_then (settles_row row) r.settled k;

@@ -30,15 +30,16 @@ use Rattle.cqs_core.proofs.Places.{get-set_here, get-set_else, get-append_left}
 use Rattle.cqs_rule_laws.specs.declared.view.View.{View}
 use Rattle.cqs_rule_laws.specs.declared.view.Facts.{Facts}
 use Rattle.cqs_rule_laws.specs.declared.view.Has.{Has}
-use Rattle.cqs_rule_laws.specs.Client.{IsClient, IsPaid, IsPayload, KeepsSlot, KeepsSlotAt}
+use Rattle.cqs_rule_laws.specs.Client.{IsClient, IsPaid, IsPayload, KeepsSlot, KeepsSlotAt, pays_away, gives_away}
 use Rattle.cqs_rule_laws.specs.Counts.{IsCount, IsCountBy, PaysNoElement, DrewBy, drew, IsDrawnBy}
 use Rattle.cqs_rule_laws.specs.Facts.{counter_place, facts_counted_by, IsBehind}
+use Rattle.cqs_rule_laws.specs.Given.{times_given}
 use Rattle.cqs_rule_laws.specs.Hidden.{Hidden, Gains, has_paid, has_after, happened_by, state_at}
 use Rattle.cqs_rule_laws.specs.Kinds.{Carries, pays_owed}
 use Rattle.cqs_rule_laws.specs.Layout.{words_for, client_words}
 use Rattle.cqs_rule_laws.specs.Manner.{Suits}
 use Rattle.cqs_rule_laws.specs.Object.{Object, Primitive}
-use Rattle.cqs_rule_laws.specs.Ruled.{Ruled, IsWaitOf, Stands, number_at}
+use Rattle.cqs_rule_laws.specs.Ruled.{Ruled, RuledAhead, IsWaitOf, Stands, number_at}
 use Rattle.cqs_rule_laws.specs.Saw.{IsLive}
 use Rattle.cqs_rule_laws.specs.Slots.{laid_in}
 use Rattle.cqs_rule_laws.specs.Views.{grown}
@@ -49,6 +50,8 @@ use Rattle.cqs_rule_laws.proofs.Settled.{finals-on}
 use Rattle.cqs_rule_laws.proofs.CellPlaces.{behind-suspends, behind-resumes, suspends-inside, resumes-inside}
 use Rattle.cqs_rule_laws.proofs.Cells.{written_same, made_same, pushed-back, installed-drawn, since-on}
 use Rattle.cqs_rule_laws.proofs.Advance.{Turned}
+use Rattle.cqs_rule_laws.proofs.Given.{IsTiedAt, tied-on}
+use Rattle.cqs_rule_laws.proofs.GivenBeside.{aware-beside}
 use Rattle.cqs_rule_laws.proofs.Staying.{OthersStay}
 use Rattle.cqs_rule_laws.proofs.Lists.{fewer_draw}
 use Rattle.cqs_rule_laws.proofs.Others.{door-keeps}
@@ -351,18 +354,46 @@ not-counting d at e works is no_such = no_such (sym works ∙ is)
 
 module _ {E S : Type 0} (object : Object E) (primitive : Primitive E S) (passes limit : ℕ)
     (client : IsClient object primitive) where
-  -- a pass that pays so has laid nothing into the slot that it gives away, and has no such slot open
-  pub record StaysWith (cost : Cost) (payload : ℕ) (v : View E S) : Type 0 where
+  -- A pass that pays so has laid nothing into the slot that it gives away, and has no such slot open. It gives those
+  -- away into which values were handed ahead.
+  pub record StaysWith (slots : ℕ) (ahead : ℕ → ℕ) (cost : Cost) (payload : ℕ) (v : View E S) : Type 0 where
     pub laid : (k : ℕ) (x : Option S) → laid_in v.laid k ≡ Some x → KeepsSlotAt cost payload k
     pub out : (k : ℕ) → v.facts.open_slot ≡ Some k → KeepsSlotAt cost payload k
+    pub given : (k : ℕ) → k < slots → pays_away cost payload k ≡ ahead k
+    pub mine : (k : ℕ) → 0 < ahead k → primitive.opens v.facts.has k
+
+  -- a pass that pays with nothing
+  stays-free : (slots payload : ℕ) (v : View E S) → StaysWith slots (λ k. 0) no_cost payload v
+  stays-free slots payload v = record {
+    laid = λ k x laid. tt;
+    out = λ k out. tt;
+    given = λ k low. refl;
+    mine = λ k some. absurd (omega arith);
+  }
+
+  stays-owed : (slots payload : ℕ) (v : View E S) → StaysWith slots (λ k. 0) one_owed payload v
+  stays-owed slots payload v = record {
+    laid = λ k x laid. tt;
+    out = λ k out. tt;
+    given = λ k low. refl;
+    mine = λ k some. absurd (omega arith);
+  }
+
+  -- how often the entries of a step that is paid so give a slot away
+  gives-paid : (st : QueueStep) {at : Stage} {counter : Counter} (cost : Cost) (payload p n j : ℕ)
+      → row_of st ≡ at_counter (record { works_at = at; counter = counter; cost = cost })
+      → Suits primitive.manner st
+      → times_given object.gives (object.entries st p n payload) j ≡ pays_away cost payload j
+  gives-paid st cost payload p n j is suits = client.slots.gives st p n payload j suits
+      ∙ ap (λ row. gives_away row payload j) is
 
   -- it keeps the slots that it has laid something into
-  keeps-paid : (st : QueueStep) {at : Stage} {counter : Counter} (cost : Cost) (payload : ℕ) (v : View E S)
-      (facts : Facts)
+  keeps-paid : {ahead : ℕ → ℕ} (slots : ℕ) (st : QueueStep) {at : Stage} {counter : Counter} (cost : Cost)
+      (payload : ℕ) (v : View E S) (facts : Facts)
       → row_of st ≡ at_counter (record { works_at = at; counter = counter; cost = cost })
       → facts.has ≡ has_paid cost payload v.facts.has → facts.open_slot ≡ v.facts.open_slot
-      → Suits primitive.manner st → StaysWith cost payload v → Keeps primitive.opens v facts
-  keeps-paid st {at} {counter} cost payload v facts is has same suits stays = record {
+      → Suits primitive.manner st → StaysWith slots ahead cost payload v → Keeps primitive.opens v facts
+  keeps-paid slots st {at} {counter} cost payload v facts is has same suits stays = record {
     open_slot = same;
     laid = λ k x laid o. kept k (stays.laid k x laid) o;
     out = λ k out o. kept k (stays.out k out) o;
@@ -378,7 +409,7 @@ module _ {E S : Type 0} (object : Object E) (primitive : Primitive E S) (passes 
       → row_of st ≡ at_counter (record { works_at = at; counter = to_suspend; cost = cost }) → me.0.weight ≡ 1
       → Suits primitive.manner st → me.0.facts.doing ≡ doing_at at 0 → ((k : ℕ) → doing_at at 0 ≡ doing_at at k)
       → (me.0.facts.doing ≡ doing.Door ⊎ me.0.facts.may_draw ≡ true) → IsPaid cost me.0.facts.has payload
-      → payload < 2 ^ 20 → StaysWith cost payload me.0
+      → payload < 2 ^ 20 → StaysWith slots (λ k. 0) cost payload me.0
       → Allows (Ruled object primitive passes limit) slots id me 16 (λ n. (n + 1) % 2 ^ 64)
       (λ n me'. DrewBy object st (at_counter (record { works_at = at; counter = to_suspend; cost = cost })) payload me.0
       n me'.0
@@ -386,7 +417,7 @@ module _ {E S : Type 0} (object : Object E) (primitive : Primitive E S) (passes 
       × Carries object.gains.held (at_counter (record { works_at = at; counter = to_suspend; cost = cost })) me.0.facts
       me'.0.facts
       × IsDrawnBy (at_counter (record { works_at = at; counter = to_suspend; cost = cost })) me.0.facts n)
-  draw slots id me st at cost payload is one suits works steady may paid fits stays s r _ here small =
+  draw slots id me st at cost payload is one suits works steady may paid fits stays s r homes here small =
       let v = me.0 in let p = v.number in let f = v.facts in let c = r.hidden in
       let known = r.each_view id v here (omega arith) in
       let stands = known.stands in
@@ -449,8 +480,11 @@ module _ {E S : Type 0} (object : Object E) (primitive : Primitive E S) (passes 
         self = drawn-self object.gains c p n at cost found f.has payload n f refl refl refl next sound stands;
         silent = client.silent st p n payload;
         payload_fits = paid-fits cost payload f.has fits known.payload_fits;
-        slots = keeps-paid st cost payload v facts is refl refl suits stays;
+        slots = keeps-paid slots st cost payload v facts is refl refl suits stays;
         draws = ap (λ k. c.queue.resumes + k) (sym (draws-word f.found 16 n (λ e. omega arith)));
+        given = λ j low. gives-paid st cost payload p n j is suits ∙ stays.given j (omega arith);
+        aware = aware-beside object primitive passes limit client s r id v es here (omega arith)
+            (λ j low. gives-paid st cost payload p n j is suits ∙ stays.given j (omega arith)) stays.mine;
         now = r.segments;
         later = later-same r.segments;
         settles = r.settled;
@@ -512,18 +546,22 @@ module _ {E S : Type 0} (object : Object E) (primitive : Primitive E S) (passes 
       → c.queue.resumes < c.queue.suspends + length (queue.door c.queue) + primitive.values
 
   -- a number is drawn to resume at: the rule after it, and what it tells
-  pub reached-so : (slots id : ℕ) (me : Me (Option S) (View E S)) (st : QueueStep) (at : Stage) (cost : Cost)
-      (payload : ℕ)
+  pub reached-so : {ahead : ℕ → ℕ} (slots id : ℕ) (me : Me (Option S) (View E S)) (st : QueueStep) (at : Stage)
+      (cost : Cost) (payload : ℕ)
       → row_of st ≡ at_counter (record { works_at = at; counter = to_resume; cost = cost }) → me.0.weight ≡ 1
       → Suits primitive.manner st → me.0.facts.doing ≡ doing_at at 0 → ((k : ℕ) → doing_at at 0 ≡ doing_at at k)
-      → IsPaid cost me.0.facts.has payload → payload < 2 ^ 20 → StaysWith cost payload me.0 → ReachesFew me.0
-      → (s : State (Option S) (View E S)) (r : Ruled object primitive passes limit s) → length s.homes ≡ slots
+      → IsPaid cost me.0.facts.has payload → payload < 2 ^ 20 → StaysWith slots ahead cost payload me.0
+      → ReachesFew me.0
+      → (s : State (Option S) (View E S)) (r : RuledAhead object primitive passes limit ahead s)
+      → length s.homes ≡ slots
       → get_elem? s.views id ≡ some me.0 → slice_index s.words 32 < 18446744073709551616
       → (w : View E S)
       × Ruled object primitive passes limit
       (stepped s 32 ((slice_index s.words 32 + 1) % 2 ^ 64) id me.1 w keeps)
       × Reaches st at cost payload me (slice_index s.words 32) (w, me.1) × (w.handed ≡ r.handed) × (w.laid ≡ me.0.laid)
-  reached-so slots id me st at cost payload is one suits works steady paid fits stays few_left s r _ here small =
+      × IsTiedAt object.gives slots w
+  reached-so {ahead} slots id me st at cost payload is one suits works steady paid fits stays few_left s r homes here
+      small =
       let v = me.0 in let p = v.number in let f = v.facts in let c = r.hidden in
       let known = r.each_view id v here (omega arith) in
       let stands = known.stands in
@@ -583,8 +621,11 @@ module _ {E S : Type 0} (object : Object E) (primitive : Primitive E S) (passes 
         self = reached-self object.gains c p n at cost found f.has payload n f refl refl next stands;
         silent = client.silent st p n payload;
         payload_fits = paid-fits cost payload f.has fits known.payload_fits;
-        slots = keeps-paid st cost payload v facts is refl refl suits stays;
+        slots = keeps-paid slots st cost payload v facts is refl refl suits stays;
         draws = let more = draws-one f.found n in omega arith;
+        given = λ j low. gives-paid st cost payload p n j is suits ∙ stays.given j (omega arith);
+        aware = aware-beside object primitive passes limit client s r id v es here (omega arith)
+            (λ j low. gives-paid st cost payload p n j is suits ∙ stays.given j (omega arith)) stays.mine;
         now = r.segments;
         later = later-same r.segments;
         settles = r.settled;
@@ -627,12 +668,14 @@ module _ {E S : Type 0} (object : Object E) (primitive : Primitive E S) (passes 
         ),
         refl,
         refl,
+        λ k low. tied-on object.gives (length s.homes) ahead r.log es r.handed t.given r.tied k (omega arith),
       )
 
   reach : (slots id : ℕ) (me : Me (Option S) (View E S)) (st : QueueStep) (at : Stage) (cost : Cost) (payload : ℕ)
       → row_of st ≡ at_counter (record { works_at = at; counter = to_resume; cost = cost }) → me.0.weight ≡ 1
       → Suits primitive.manner st → me.0.facts.doing ≡ doing_at at 0 → ((k : ℕ) → doing_at at 0 ≡ doing_at at k)
-      → IsPaid cost me.0.facts.has payload → payload < 2 ^ 20 → StaysWith cost payload me.0 → ReachesFew me.0
+      → IsPaid cost me.0.facts.has payload → payload < 2 ^ 20 → StaysWith slots (λ k. 0) cost payload me.0
+      → ReachesFew me.0
       → Allows (Ruled object primitive passes limit) slots id me 32 (λ n. (n + 1) % 2 ^ 64)
       (Reaches st at cost payload me)
   reach slots id me st at cost payload is one suits works steady paid fits stays few_left s r homes here small =
@@ -651,19 +694,19 @@ module _ {E S : Type 0} (object : Object E) (primitive : Primitive E S) (passes 
       (drew object draws (step slots z.0 z.1 0 none) me))
       (λ i. (sym c.word_is i, sym (one-more amount by is c.one) i))
       (draw slots id me draws stage.door no_cost me.0.facts.has.payload refl one suits c.works (λ k. refl)
-      (inl c.works) c.paid c.fits (record { laid = λ k x laid. tt; out = λ k out. tt }))
+      (inl c.works) c.paid c.fits (stays-free slots me.0.facts.has.payload me.0))
   count-draw slots id me t word amount by is_enters one is suits c free =
       subst (λ (z : ℕ × ℕ). Allows (Ruled object primitive passes limit) slots id me z.0 (λ n. (n + z.1) % 2 ^ 64)
       (drew object enters (step slots z.0 z.1 0 none) me))
       (λ i. (sym c.word_is i, sym (one-more amount by is c.one) i))
       (draw slots id me enters stage.idle no_cost me.0.facts.has.payload refl one suits c.works (λ k. refl)
-      (inr c.may) c.paid c.fits (record { laid = λ k x laid. tt; out = λ k out. tt }))
+      (inr c.may) c.paid c.fits (stays-free slots me.0.facts.has.payload me.0))
   count-draw slots id me t word amount by is_reaches one is suits c free =
       subst (λ (z : ℕ × ℕ). Allows (Ruled object primitive passes limit) slots id me z.0 (λ n. (n + z.1) % 2 ^ 64)
       (drew object reaches (step slots z.0 z.1 0 none) me))
       (λ i. (sym c.word_is i, sym (one-more amount by is c.one) i))
       (reach slots id me reaches stage.owes no_cost me.0.facts.has.payload refl one suits c.works
-      (λ k. refl) c.paid c.fits (record { laid = λ k x laid. tt; out = λ k out. tt })
+      (λ k. refl) c.paid c.fits (stays-free slots me.0.facts.has.payload me.0)
       (λ h words log handed shown does has. client.reaches_few h words log handed me.0.number shown (does
       ∙ ap Some c.works)))
   count-draw slots id me t word amount by is_begins one is suits c free =
@@ -671,7 +714,7 @@ module _ {E S : Type 0} (object : Object E) (primitive : Primitive E S) (passes 
       (drew object begins (step slots z.0 z.1 0 none) me))
       (λ i. (sym c.word_is i, sym (one-more amount by is c.one) i))
       (reach slots id me begins stage.idle one_owed me.0.facts.has.payload refl one suits c.works
-      (λ k. refl) c.paid c.fits (record { laid = λ k x laid. tt; out = λ k out. tt })
+      (λ k. refl) c.paid c.fits (stays-owed slots me.0.facts.has.payload me.0)
       (λ h words log handed shown does has. client.begins_few h words log handed me.0.number me.0.facts.has one_owed
       me.0.facts.has.payload shown (does ∙ ap Some c.works) has c.paid tt suits))
   count-draw slots id me t word amount by is_puts one is suits c free = absurd free

@@ -1,5 +1,5 @@
 -- A pass is met away: the join of two views, and the step on the crew's word that counts one of them out.
-use Rattle.std.proofs.Common.{◌≡◌, ◌≢◌, ℕ, ◌+◌, ◌-◌, ◌*◌, ◌%◌, ◌^◌, ◌<◌, ◌≤◌, List, [], ◌++◌, set, sym, refl, ap, ◌∙◌, subst, ⊎_elim, inl, inr, arith, length-set, Option, Some, None}
+use Rattle.std.proofs.Common.{◌≡◌, ◌≢◌, ℕ, ◌+◌, ◌-◌, ◌*◌, ◌%◌, ◌^◌, ◌<◌, ◌≤◌, List, [], ◌++◌, set, sym, refl, ap, ◌∙◌, subst, ⊎_elim, inl, inr, arith, length-set, Option, Some, None, length}
 use Rattle.std.specs.Prelude.{slice_index}
 use Rattle.std.proofs.lemmas.List.{append-nil}
 use mathlib.Core.Option.{none, some}
@@ -35,6 +35,8 @@ use Rattle.cqs_rule_laws.proofs.Tells.{inside-of}
 use Rattle.cqs_rule_laws.proofs.CrewWords.{crew-met, off, only-left, counters-stay, cells-stay, idle-stay}
 use Rattle.cqs_rule_laws.proofs.CrewHeld.{handed-else, handed-from, handed-to}
 use Rattle.cqs_rule_laws.proofs.CrewViews.{apart-set, apart-joined, kept-set, knows-on}
+use Rattle.cqs_rule_laws.specs.Given.{IsAware}
+use Rattle.cqs_rule_laws.proofs.Given.{aware-joined, aware-whole}
 
 module _ {E S : Type 0} (object : Object E) (primitive : Primitive E S) (passes limit : ℕ)
     (client : IsClient object primitive) where
@@ -69,6 +71,8 @@ module _ {E S : Type 0} (object : Object E) (primitive : Primitive E S) (passes 
       λ j x a b e n f h stands. handed-else r.hidden from to gave got n f
       (λ same. b (r.apart j other x u n e at-other h (subst (λ z. Has z (all_own u)) (sym same) its)))
       (λ same. a (r.apart j id x v n e here h (subst (λ z. Has z (all_own v)) (sym same) mine))) stands in
+      let Aware : ℕ → View E S → Type 0 =
+      λ j x. 0 < x.weight → IsAware object.gives primitive.opens (length s.homes) r.log x in
       let P : ℕ → View E S → Type 0 =
       λ j x. 0 < x.weight → Knows object d r.log r.handed r.made r.live passes limit
       (cell_count passes limit primitive.values) primitive.opening x in
@@ -202,6 +206,14 @@ module _ {E S : Type 0} (object : Object E) (primitive : Primitive E S) (passes 
         shelf = shelf-joined primitive.opens r.handed r.live s.homes s.views id other v u w spent here at-other apart
             (omega arith) (omega arith) (omega arith) refl refl shut bare shut
             (λ j o. client.slots.gathers v.facts.has u.facts.has j o) r.shelf;
+        tied = r.tied;
+        aware = λ j x e live. set_all Aware mid other spent (λ z. absurd (omega arith))
+            (λ i y apart at on. set_all Aware s.views id w
+            (λ z. aware-joined object.gives primitive.opens (length s.homes) r.log v u (omega arith) (omega arith)
+            (λ m o. client.slots.gathered v.facts.has u.facts.has m o)
+            (λ m o. client.slots.bare u.facts.has m o)
+            (r.aware id v here (omega arith)) (r.aware other u at-other (omega arith)))
+            (λ m x differs there z. r.aware m x there z) i y at on) j x e live;
       }
     where
       at-other : get_elem? s.views other ≡ some u
@@ -407,6 +419,11 @@ module _ {E S : Type 0} (object : Object E) (primitive : Primitive E S) (passes 
               (λ j u at on i out single. absurd (omega arith))
               (shelf-set primitive.opens r.handed r.live s.homes s.views id v w here (omega arith)
               (record { live = omega arith; laid = refl; keeps = keeps-same primitive.opens v }) r.shelf);
+          tied = r.tied;
+          aware = set_all (λ j u. 0 < u.weight
+              → IsAware object.gives primitive.opens (length s.homes) r.log u) s.views id w
+              (λ live. aware-whole object.gives primitive.opens (length s.homes) r.log w refl refl)
+              (λ j u apart at live. r.aware j u at live);
         },
         (
           record {

@@ -36,6 +36,8 @@ use Rattle.cqs_rule_laws.proofs.CrewWords.{crew-of, crew-made, off, only-left, c
 use Rattle.cqs_rule_laws.proofs.CrewHeld.{handed-else, handed-from, handed-to, lessened-payload, keeps-less, live-lessened, live-before}
 use Rattle.cqs_rule_laws.proofs.CrewViews.{apart-set, apart-cut, kept-set, knows-on}
 use Rattle.cqs_rule_laws.proofs.CrewLooks.{looks}
+use Rattle.cqs_rule_laws.specs.Given.{IsAware}
+use Rattle.cqs_rule_laws.proofs.Given.{aware-single, aware-cut}
 
 module _ {E S : Type 0} (object : Object E) (primitive : Primitive E S) (passes limit : ℕ)
     (client : IsClient object primitive) where
@@ -281,6 +283,11 @@ module _ {E S : Type 0} (object : Object E) (primitive : Primitive E S) (passes 
                   let l = r.crew.live_is in absurd (omega arith)))
                   (shelf-set primitive.opens r.handed r.live s.homes s.views id v w here (omega arith)
                   (record { live = omega arith; laid = refl; keeps = keeps-less primitive.opens gives v may }) r.shelf);
+              tied = r.tied;
+              aware = set_all (λ j u. 0 < u.weight
+                  → IsAware object.gives primitive.opens (length s.homes) r.log u) s.views id w
+                  (λ live. record { mine = λ j low o. inl refl; second = λ two j low o. refl })
+                  (λ j u apart at live. r.aware j u at live);
             },
             (
               record {
@@ -389,9 +396,9 @@ module _ {E S : Type 0} (object : Object E) (primitive : Primitive E S) (passes 
       (sym is) (makes slots id first gives me one shut room may)
 
   -- the view of a pass that counts for two is cut in two
-  pub splits : (id : ℕ) (v : View E S) → v.weight ≡ 2 → v.second.open_slot ≡ None
+  pub splits : (id : ℕ) (v : View E S) → v.weight ≡ 2 → v.second.open_slot ≡ None → v.other ≡ v.seen
       → Splits R id v (single v) (cut_off v)
-  splits id v two shut s r here =
+  splits id v two shut level s r here =
       let k = r.each_view id v here (omega arith) in
       let second = k.second (omega arith) in
       let left = single v in
@@ -518,6 +525,18 @@ module _ {E S : Type 0} (object : Object E) (primitive : Primitive E S) (passes 
         shelf = shelf-end primitive.opens r.handed r.live s.homes views right refl shut
             (shelf-set primitive.opens r.handed r.live s.homes s.views id v left here (omega arith)
             (record { live = omega arith; laid = refl; keeps = keeps-same primitive.opens v }) r.shelf);
+        tied = r.tied;
+        aware = λ j u e live. ⊎_elim
+            (λ q. set_all (λ i y. 0 < y.weight
+            → IsAware object.gives primitive.opens (length s.homes) r.log y) s.views id left
+            (λ on. aware-single object.gives primitive.opens (length s.homes) r.log v level
+            (r.aware id v here (omega arith)))
+            (λ i y apart at on. r.aware i y at on) j u q live)
+            (λ (q : (j ≡ length views) × (right ≡ u)).
+            subst (IsAware object.gives primitive.opens (length s.homes) r.log) q.1
+            (aware-cut object.gives primitive.opens (length s.homes) r.log v (omega arith)
+            (r.aware id v here (omega arith))))
+            (at_end views right u j e);
         spent = λ j u e none. ⊎_elim
             (λ q. spent-set object primitive passes limit s.views id left (omega arith) r.spent j u q none)
             (λ (q : (j ≡ length views) × (right ≡ u)). let w : right.weight ≡ u.weight =

@@ -1,6 +1,6 @@
 -- A step on a word of the client by which the pass gives a slot away: the value that lies there is handed in by the
 -- same step.
-use Rattle.std.proofs.Common.{◌≡◌, ℕ, ◌<◌, Bool, List, [], ◌∷◌, set, sym, refl, ap, ◌∙◌, subst, arith, inl, Option, Some, None}
+use Rattle.std.proofs.Common.{◌≡◌, ℕ, ◌<◌, Bool, List, [], ◌∷◌, set, sym, refl, ap, ◌∙◌, subst, arith, inl, Option, Some, None, length}
 use Rattle.std.specs.Prelude.{slice_index, slice_set}
 use Rattle.std.proofs.lemmas.Option.{same_Some}
 use mathlib.Core.Option.{none}
@@ -11,9 +11,10 @@ use Rattle.cqs_rule_laws.specs.Events.{Event, Moves}
 use Rattle.cqs_rule_laws.specs.Layout.{client_place}
 use Rattle.cqs_rule_laws.specs.Object.{Object, Primitive}
 use Rattle.cqs_rule_laws.specs.Ruled.{Ruled}
-use Rattle.cqs_rule_laws.specs.Slots.{laid_in}
-use Rattle.cqs_rule_laws.specs.SlotSteps.{GivesAway, HandedIn, given_by}
-use Rattle.cqs_rule_laws.proofs.Handing.{hand-in, giving, off-here}
+use Rattle.cqs_rule_laws.specs.Slots.{laid_in, handed_in}
+use Rattle.cqs_rule_laws.specs.SlotSteps.{GivesAway, HandedBy, given_by}
+use Rattle.cqs_rule_laws.proofs.Handing.{hand-in, giving, off-here, handed-here}
+use Rattle.cqs_rule_laws.proofs.Given.{once, once-owned, tied-ahead, last-tied}
 use Rattle.cqs_rule_laws.proofs.Lists.{set_there, longer}
 use Rattle.cqs_rule_laws.proofs.Moves.{moved}
 use Rattle.cqs_rule_laws.proofs.Swaps.{set_twice, saw-given, none-off}
@@ -23,21 +24,31 @@ module _ {C E S : Type 0} (object : Object E) (primitive : C → Primitive E S) 
   pub gives : (slots id : ℕ) (me : Me (Option S) (View E S)) (i first : ℕ) (f : ℕ → ℕ) (slot : ℕ)
       → me.0.weight ≡ 1
       → me.0.facts.open_slot ≡ None → i < 4
-      → GivesAway (primitive x) slots event made slot me.0
+      → GivesAway object (primitive x) slots event made slot me.0
       → Moves object (primitive x) event made me.0.number me.0.facts i f
       → Allows (Ruled object (primitive x) passes limit) slots id me (client_place i) f
       (given_by object primitive event made slot (step slots (client_place i) first 0 none) me)
   gives slots id me i first f slot one shut few give law s r homes here small =
       let v = me.0 in
-      let y = give.value in
-      let t = hand-in object (primitive x) passes limit client s r id v slot y here (omega arith) (inl give.laid) in
+      let y = give.lies.value in
+      let known = r.each_view id v here (omega arith) in
+      let owns = (r.shelf.laid id v here (omega arith) slot (Some y) give.lies.laid).1 in
+      let t = hand-in object (primitive x) passes limit client (once slot) s r id v slot y here (omega arith)
+      (inl give.lies.laid)
+      (tied-ahead object.gives (length s.homes) r.log v.handed r.handed slot y give.lies.last known.sees.handed_in
+      give.lies.filled r.tied) in
       let g : View E S = giving object (primitive x) passes limit client v r.handed slot y in
       let s' : State (Option S) (View E S) =
       record { words = s.words; homes = s.homes; views = set s.views id g } in
-      let known = r.each_view id v here (omega arith) in
       let more = longer v.handed r.handed ((slot, y) ∷ []) known.sees.handed_in in
       let m = moved object primitive passes limit x client event made slots id (g, me.1) i f
-      (record { one = one; shut = shut; stay = λ n k z low is o. give.others n k z is o }) few law s' t.0 homes
+      (record {
+        one = one;
+        shut = shut;
+        stay = λ n k z low is o. give.others n k z is o;
+        given = give.gives;
+        mine = λ k some. once-owned slot k ((primitive x).opens v.facts.has) owns some;
+      }) few law s' t.0 homes
       (set_there s.views id v g here) small in
       let w = m.0 in
       let told = m.2 in (
@@ -54,14 +65,18 @@ module _ {C E S : Type 0} (object : Object E) (primitive : C → Primitive E S) 
           refl,
           told.2,
           λ z q.
-              let same : y ≡ z = same_Some y z (same_Some (Some y) (Some z) (sym give.laid ∙ q)) in
-              subst (λ u. HandedIn slot u v w) same
-              (record {
-                before = r.handed;
-                is = m.3 ∙ t.1;
-                old = known.sees.handed_in;
-                whole = λ a. sym (known.alone a).3;
-                off = ap (λ l. laid_in l slot) m.4 ∙ off-here slot v.laid;
+              let same : y ≡ z = same_Some y z (same_Some (Some y) (Some z) (sym give.lies.laid ∙ q)) in
+              subst (λ u. HandedBy object slot u v w) same (record {
+                handed = (record {
+                  before = r.handed;
+                  is = m.3 ∙ t.1;
+                  old = known.sees.handed_in;
+                  whole = λ a. sym (known.alone a).3;
+                  off = ap (λ l. laid_in l slot) m.4 ∙ off-here slot v.laid;
+                });
+                numbered = last-tied object.gives slots w.seen w.handed slot y
+                    (let low = (r.shelf.laid id v here (omega arith) slot (Some y) give.lies.laid).2 in omega arith) m.5
+                    (ap (λ l. handed_in l slot) (m.3 ∙ t.1) ∙ handed-here r.handed slot y);
               }),
         ),
       )
@@ -71,7 +86,7 @@ module _ {C E S : Type 0} (object : Object E) (primitive : C → Primitive E S) 
       → me.0.weight ≡ 1
       → me.0.facts.open_slot ≡ None → i < 4
       → place ≡ client_place i → ((n : ℕ) → g n ≡ f n)
-      → GivesAway (primitive x) slots event made slot me.0
+      → GivesAway object (primitive x) slots event made slot me.0
       → Moves object (primitive x) event made me.0.number me.0.facts i f
       → Allows (Ruled object (primitive x) passes limit) slots id me place g
       (given_by object primitive event made slot (step slots place first 0 none) me)

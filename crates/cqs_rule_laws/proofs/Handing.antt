@@ -1,5 +1,5 @@
 -- A value is handed in: the pass that may open its slot leaves it there for whom the slot comes to next.
-use Rattle.std.proofs.Common.{◌≡◌, ◌≢◌, ◌⊎◌, ℕ, ◌<◌, ◌==◌, true, List, [], ◌∷◌, ◌++◌, length, set, sym, refl, ap, ◌∙◌, subst, ⊎_elim, inl, arith, eq-eqb, ne_eqb, Option, Some, None, if◌then◌else◌}
+use Rattle.std.proofs.Common.{◌≡◌, ◌≢◌, ◌⊎◌, ℕ, ◌<◌, ◌==◌, true, List, [], ◌∷◌, ◌++◌, length, set, sym, refl, ap, ◌∙◌, subst, ⊎_elim, inl, arith, Option, Some, None, if◌then◌else◌}
 use Rattle.std.proofs.lemmas.List.{append-nil}
 use mathlib.Core.Option.{some}
 use mathlib.Core.Option as maybe
@@ -11,11 +11,12 @@ use Rattle.atomic_table.proofs.Lists.{set_else}
 use Rattle.cqs_rule_laws.specs.declared.view.Opening.{Opening}
 use Rattle.cqs_rule_laws.specs.declared.view.View.{View}
 use Rattle.cqs_rule_laws.specs.Client.{IsClient}
+use Rattle.cqs_rule_laws.specs.Given.{AreTied, IsAware, AreAware}
 use Rattle.cqs_rule_laws.specs.Hidden.{Hidden}
 use Rattle.cqs_rule_laws.specs.Layout.{client_words}
 use Rattle.cqs_rule_laws.specs.Lists.{Has, IsPrefix}
 use Rattle.cqs_rule_laws.specs.Object.{Object, Primitive}
-use Rattle.cqs_rule_laws.specs.Ruled.{Ruled, Knows, IsKept, cell_count}
+use Rattle.cqs_rule_laws.specs.Ruled.{Ruled, RuledAhead, Knows, IsKept, cell_count}
 use Rattle.cqs_rule_laws.specs.Segments.{KnowsSegments}
 use Rattle.cqs_rule_laws.proofs.Spares.{spares-kept}
 use Rattle.cqs_rule_laws.proofs.ToRetire.{leave-kept}
@@ -23,15 +24,8 @@ use Rattle.cqs_rule_laws.proofs.Duties.{counted-kept}
 use Rattle.cqs_rule_laws.specs.Slots.{laid_in, taken_off, or_else, handed_in, MayOpen, Shelf}
 use Rattle.cqs_rule_laws.specs.Views.{all_own, weight, Tip}
 use Rattle.cqs_rule_laws.proofs.Advance.{spent-set, stands-out, still-apart}
-use Rattle.cqs_rule_laws.proofs.Lists.{set_there, one_there, set_all, total_set, two_of, longer, has_left}
+use Rattle.cqs_rule_laws.proofs.Lists.{chosen, passed-by, set_there, one_there, set_all, total_set, two_of, longer, has_left}
 use Rattle.cqs_rule_laws.proofs.Shelves.{back}
-
--- a choice by a number that is this one, and that isn't
-pub chosen : {A : Type 0} (j k : ℕ) (a b : A) → j ≡ k → (if j == k then a else b) ≡ a
-chosen j k a b same = ap (λ c. if c then a else b) (eq-eqb j k same)
-
-pub passed-by : {A : Type 0} (j k : ℕ) (a b : A) → j ≢ k → (if j == k then a else b) ≡ b
-passed-by j k a b apart = ap (λ c. if c then a else b) (ne_eqb j k apart)
 
 module _ {S : Type 0} where
   -- what is taken off is laid there no more, and the rest is
@@ -165,17 +159,22 @@ module _ {E S : Type 0} (object : Object E) (primitive : Primitive E S) (passes 
           let two = two_of weight s.views i j u v apart here there in
           let l = r.crew.live_is in absurd (omega arith))
 
+  -- the rule, where values were handed in ahead of the entries that are to follow
+  abbrev pub Ahead : (ℕ → ℕ) → State (Option S) (View E S) → Type 0
+  Ahead ahead = RuledAhead object primitive passes limit ahead
+
   -- the rule where a view turns its slots, and no word changes
-  pub reshelf : (s : State (Option S) (View E S)) (r : R s) (id : ℕ) (v : View E S) (out : Option ℕ)
+  pub reshelf : (ahead : ℕ → ℕ) (s : State (Option S) (View E S)) (r : R s) (id : ℕ) (v : View E S) (out : Option ℕ)
       (h handed : List (ℕ × S)) (laid : List (ℕ × Option S)) (homes : List (maybe.Option (Option S)))
       → get_elem? s.views id ≡ some v → 0 < v.weight
       → ((u : List (ℕ × S)) → IsPrefix u r.handed → IsPrefix u handed) → IsPrefix h handed
       → (v.alone ≡ true → h ≡ handed)
       → primitive.shows r.hidden (client_words s.words) r.log handed
       → (shelf : Shelf primitive.opens handed r.live homes (set s.views id (turned v out h laid)))
-      → (t : R (record { words = s.words; homes = homes; views = set s.views id (turned v out h laid) }))
+      → length homes ≡ length s.homes → AreTied object.gives (length s.homes) ahead r.log handed
+      → (t : Ahead ahead (record { words = s.words; homes = homes; views = set s.views id (turned v out h laid) }))
       × (t.handed ≡ handed) × ((k : ℕ) → t.shelf.lies k ≡ shelf.lies k)
-  reshelf s r id v out h handed laid homes here alive more seen whole shown shelf = (
+  reshelf ahead s r id v out h handed laid homes here alive more seen whole shown shelf long tied = (
     record {
       hidden = r.hidden;
       log = r.log;
@@ -225,6 +224,11 @@ module _ {E S : Type 0} (object : Object E) (primitive : Primitive E S) (passes 
       unused = r.unused;
       tip = tip-set r.tip;
       shelf = shelf;
+      tied = λ k low. tied k (omega arith);
+      aware = subst (λ n. AreAware object.gives primitive.opens n r.log (set s.views id w)) (sym long)
+          (set_all (λ j u. 0 < u.weight → IsAware object.gives primitive.opens (length s.homes) r.log u) s.views id w
+          (λ live. let a = r.aware id v here alive in record { mine = a.mine; second = a.second })
+          (λ j u apart at live. r.aware j u at live));
       slots = r.slots;
       segments = r.segments;
       noted = set_all (λ j u. IsPrefix u.seen r.log) s.views id w (r.noted id v here) (λ j u apart at. r.noted j u at);
@@ -299,14 +303,15 @@ module _ {E S : Type 0} (object : Object E) (primitive : Primitive E S) (passes 
   IsThere v k y = (laid_in v.laid k ≡ Some (Some y)) ⊎ ((v.facts.open_slot ≡ Some k) × (laid_in v.laid k ≡ None))
 
   -- the rule where the value is handed in, before any word changes
-  pub hand-in : (s : State (Option S) (View E S)) (r : R s) (id : ℕ) (v : View E S) (k : ℕ) (y : S)
+  pub hand-in : (ahead : ℕ → ℕ) (s : State (Option S) (View E S)) (r : R s) (id : ℕ) (v : View E S) (k : ℕ) (y : S)
       → get_elem? s.views id ≡ some v → 0 < v.weight → IsThere v k y
-      → (t : R (record { words = s.words; homes = s.homes; views = set s.views id (giving v r.handed k y) }))
+      → AreTied object.gives (length s.homes) ahead r.log (r.handed ++ (k, y) ∷ [])
+      → (t : Ahead ahead (record { words = s.words; homes = s.homes; views = set s.views id (giving v r.handed k y) }))
       × (t.handed ≡ r.handed ++ (k, y) ∷ []) × (t.shelf.lies k ≡ Some y)
-  hand-in s r id v k y here alive there =
-      let t = reshelf s r id v v.facts.open_slot handed handed (taken_off k v.laid) s.homes here alive
+  hand-in ahead s r id v k y here alive there tied =
+      let t = reshelf ahead s r id v v.facts.open_slot handed handed (taken_off k v.laid) s.homes here alive
       (λ u before. longer u r.handed ((k, y) ∷ []) before) ([], sym (append-nil handed)) (λ _. refl)
-      (client.slots.hands_in r.hidden (client_words s.words) r.log r.handed k y r.shown) shelf in
+      (client.slots.hands_in r.hidden (client_words s.words) r.log r.handed k y r.shown) shelf refl tied in
       (t.0, t.1, t.2 k ∙ chosen k k (Some y) (r.shelf.lies k) refl)
     where
       handed : List (ℕ × S)

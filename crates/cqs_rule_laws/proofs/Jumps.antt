@@ -40,6 +40,7 @@ use Rattle.cqs_rule_laws.proofs.Staying.{OthersStay}
 use Rattle.cqs_rule_laws.proofs.Tells.{Steps, steps}
 use Rattle.cqs_rule_laws.proofs.ToRetire.{leaves-same}
 use Rattle.cqs_rule_laws.proofs.Words.{this-word, crew-else, cells-else, client-below, idle-else, other-word}
+use Rattle.cqs_rule_laws.proofs.GivenBeside.{aware-none}
 use Rattle.cqs_rule_laws.proofs.WordStays.{found-so}
 use Rattle.cqs_slots.proofs.Lists.{has_prefix}
 use Rattle.cqs_slots.proofs.Loads.{later-same}
@@ -406,6 +407,8 @@ module _ {E S : Type 0} (object : Object E) (primitive : Primitive E S) (passes 
             payload_fits = known.payload_fits;
             slots = record { open_slot = refl; laid = λ k y laid o. o; out = λ k out o. o };
             draws = let more = draws-jump f.found from to n may.order in omega (arith, next);
+            given = λ k low. refl;
+            aware = aware-none object primitive passes limit s me.0.number r.log [] (λ k low. refl);
           }
 
       done : Steps object primitive passes limit client s id me 32 x [] facts w

@@ -5,6 +5,7 @@ pub mod Words
 pub mod Segments
 pub mod Spares
 pub mod Shelves
+pub mod Given
 pub mod Drawing
 pub mod Staying
 pub mod Duties
@@ -12,6 +13,10 @@ pub mod ToRetire
 pub mod Settled
 pub mod Over
 pub mod Advance
+pub mod GivenBeside
+pub mod HandedBy
+pub mod OneValue
+pub mod PaysAway
 pub mod Others
 pub mod CellsStand
 pub mod Outs

@@ -23,7 +23,7 @@ use Rattle.cqs_rule_laws.specs.Hidden.{state_in, state_at}
 use Rattle.cqs_rule_laws.specs.Layout.{client_words}
 use Rattle.cqs_rule_laws.specs.Lists.{Has, IsDistinct}
 use Rattle.cqs_rule_laws.specs.Object.{Object, Primitive}
-use Rattle.cqs_rule_laws.specs.Ruled.{Ruled, Stands}
+use Rattle.cqs_rule_laws.specs.Ruled.{RuledAhead, Stands}
 use Rattle.cqs_rule_laws.proofs.Near.{drawn-near, wait-made}
 
 -- no more are picked from a list than stand there
@@ -110,7 +110,7 @@ waits-stay k (Some p) false w e = absurd (cc)
 waits-stay k None stays w e = absurd (cc)
 
 module _ {E S : Type 0} (object : Object E) (primitive : Primitive E S) (passes limit : ℕ)
-    (s : State (Option S) (View E S)) (r : Ruled object primitive passes limit s) where
+    {ahead : ℕ → ℕ} (s : State (Option S) (View E S)) (r : RuledAhead object primitive passes limit ahead s) where
   -- so many cells aren't settled
   few-of : (cells : List ℕ) → IsDistinct cells
       → ((k : ℕ) → Has k cells → (r.settled k ≡ false) × (k / 32 ≤ r.segments.tail + 1))

@@ -16,11 +16,13 @@ use Rattle.cqs_rule_laws.specs.declared.view.Opening.{Opening}
 use Rattle.cqs_rule_laws.specs.Client.{IsClient}
 use Rattle.cqs_rule_laws.specs.Events.{Moment, Event, moment, has_then, facts_moved, HasWord, Moved, Moves, SlotsStay, IsShort, IsAway, StaysAway}
 use Rattle.cqs_rule_laws.specs.Facts.{is_owing, IsBehind}
+use Rattle.cqs_rule_laws.specs.Given.{times_given}
+use Rattle.cqs_rule_laws.specs.Slots.{laid_in}
 use Rattle.cqs_rule_laws.specs.Hidden.{Hidden, stands_at}
 use Rattle.cqs_rule_laws.specs.Layout.{client_words, client_place}
 use Rattle.cqs_rule_laws.specs.Lists as lists
 use Rattle.cqs_rule_laws.specs.Object.{Object, Primitive}
-use Rattle.cqs_rule_laws.specs.Ruled.{Ruled, Stands, IsSince}
+use Rattle.cqs_rule_laws.specs.Ruled.{Ruled, RuledAhead, Stands, IsSince}
 use Rattle.cqs_rule_laws.specs.Saw.{Saw, IsLive, WasFound}
 use Rattle.cqs_rule_laws.specs.Views.{grown}
 use Rattle.cqs_rule_laws.specs.Manner.{IsSmart}
@@ -29,6 +31,8 @@ use Rattle.cqs_rule_laws.proofs.Over.{over-same, unwatched-same, suspended-same}
 use Rattle.cqs_rule_laws.proofs.Settled.{finals-on}
 use Rattle.cqs_rule_laws.proofs.CellPlaces.{behind-client, client-inside}
 use Rattle.cqs_rule_laws.proofs.Advance.{Turned}
+use Rattle.cqs_rule_laws.proofs.Given.{IsTiedAt, tied-on}
+use Rattle.cqs_rule_laws.proofs.GivenBeside.{aware-beside}
 use Rattle.cqs_rule_laws.proofs.Drawing.{draws-word}
 use Rattle.cqs_rule_laws.proofs.Shelves.{never-open}
 use Rattle.cqs_rule_laws.proofs.Lines.{line-short}
@@ -99,19 +103,32 @@ module _ {C E S : Type 0} (object : Object E) (primitive : C → Primitive E S) 
   pub record MayStep (slots : ℕ) (v : View E S) : Type 0 where
     pub one : v.weight ≡ 1
     pub shut : v.facts.open_slot ≡ None
-    pub stay : SlotsStay (primitive x) slots event made v
+    pub stay : SlotsStay object (primitive x) slots event made v
+
+  -- the same of a pass that gives those away into which values were handed ahead
+  pub record MayGiveAhead (slots : ℕ) (ahead : ℕ → ℕ) (v : View E S) : Type 0 where
+    pub one : v.weight ≡ 1
+    pub shut : v.facts.open_slot ≡ None
+    pub stay : (n k : ℕ) (y : Option S) → k < slots → laid_in v.laid k ≡ Some y
+        → (primitive x).opens v.facts.has k
+        → (primitive x).opens (has_then event (moment (primitive x).opening v.number v.facts made n)) k
+    pub given : (n k : ℕ) → k < slots → times_given object.gives
+        (event.entries (moment (primitive x).opening v.number v.facts made n)) k ≡ ahead k
+    pub mine : (k : ℕ) → 0 < ahead k → (primitive x).opens v.facts.has k
 
   -- the rule after the step, and what the step tells: the pass has seen all that was handed in
-  pub moved : (slots id : ℕ) (me : Me (Option S) (View E S)) (i : ℕ) (f : ℕ → ℕ) → MayStep slots me.0 → i < 4
+  pub moved : {ahead : ℕ → ℕ} (slots id : ℕ) (me : Me (Option S) (View E S)) (i : ℕ) (f : ℕ → ℕ)
+      → MayGiveAhead slots ahead me.0 → i < 4
       → Moves object (primitive x) event made me.0.number me.0.facts i f
-      → (s : State (Option S) (View E S)) (r : Ruled object (primitive x) passes limit s) → length s.homes ≡ slots
+      → (s : State (Option S) (View E S)) (r : RuledAhead object (primitive x) passes limit ahead s)
+      → length s.homes ≡ slots
       → get_elem? s.views id ≡ some me.0 → slice_index s.words (client_place i) < 18446744073709551616
       → (w : View E S)
       × Ruled object (primitive x) passes limit
       (stepped s (client_place i) (f (slice_index s.words (client_place i))) id me.1 w keeps)
       × Tells (client_place i) me (slice_index s.words (client_place i)) (w, me.1) × (w.handed ≡ r.handed)
-      × (w.laid ≡ me.0.laid)
-  moved slots id me i f may few law s r homes here small =
+      × (w.laid ≡ me.0.laid) × IsTiedAt object.gives slots w
+  moved {ahead} slots id me i f may few law s r homes here small =
       let one = may.one in
       let v = me.0 in let p = v.number in let facts = v.facts in let c = r.hidden in
       let known = r.each_view id v here (omega arith) in
@@ -185,6 +202,9 @@ module _ {C E S : Type 0} (object : Object E) (primitive : C → Primitive E S) 
           out = λ k is o. absurd (never-open v k may.shut is);
         };
         draws = ap (λ k. c.queue.resumes + k) (sym (draws-word facts.found word n (λ e. omega arith)));
+        given = λ k low. may.given n k (omega arith);
+        aware = aware-beside object (primitive x) passes limit client s r id v es here (omega arith)
+            (λ k low. may.given n k (omega arith)) may.mine;
         now = r.segments;
         later = later-same r.segments;
         settles = r.settled;
@@ -246,16 +266,25 @@ module _ {C E S : Type 0} (object : Object E) (primitive : C → Primitive E S) 
         ),
         refl,
         refl,
+        λ k low. tied-on object.gives (length s.homes) ahead r.log es r.handed t.given r.tied k (omega arith),
       )
 
-  pub moves : (slots id : ℕ) (me : Me (Option S) (View E S)) (i : ℕ) (f : ℕ → ℕ) → MayStep slots me.0 → i < 4
+  pub moves : (slots id : ℕ) (me : Me (Option S) (View E S)) (i : ℕ) (f : ℕ → ℕ)
+      → MayStep slots me.0 → i < 4
       → Moves object (primitive x) event made me.0.number me.0.facts i f
       → Allows (Ruled object (primitive x) passes limit) slots id me (client_place i) f (Tells (client_place i) me)
   moves slots id me i f may few law s r homes here small =
-      let t = moved slots id me i f may few law s r homes here small in (t.0, keeps, tt, t.1, t.2)
+      let t = moved slots id me i f (record {
+        one = may.one;
+        shut = may.shut;
+        stay = may.stay.stay;
+        given = may.stay.none;
+        mine = λ k some. absurd (omega arith);
+      }) few law s r homes here small in (t.0, keeps, tt, t.1, t.2)
 
   -- the same at a word's place, by what the step computes of the word found
-  pub moves-at : (slots id : ℕ) (me : Me (Option S) (View E S)) (i place : ℕ) (f g : ℕ → ℕ) → MayStep slots me.0 → i < 4
+  pub moves-at : (slots id : ℕ) (me : Me (Option S) (View E S)) (i place : ℕ) (f g : ℕ → ℕ)
+      → MayStep slots me.0 → i < 4
       → place ≡ client_place i → ((n : ℕ) → g n ≡ f n)
       → Moves object (primitive x) event made me.0.number me.0.facts i f
       → Allows (Ruled object (primitive x) passes limit) slots id me place g (Tells place me)

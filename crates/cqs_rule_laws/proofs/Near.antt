@@ -19,7 +19,7 @@ use Rattle.cqs_rule_laws.specs.Layout.{client_words}
 use Rattle.cqs_rule_laws.specs.Lists.{Has}
 use Rattle.std.proofs.lemmas.Bool.{cases_lt}
 use Rattle.cqs_rule_laws.specs.Object.{Object, Primitive}
-use Rattle.cqs_rule_laws.specs.Ruled.{IsWaitOf, Ruled, Stands}
+use Rattle.cqs_rule_laws.specs.Ruled.{IsWaitOf, RuledAhead, Stands}
 use Rattle.cqs_rule_laws.specs.SegmentSteps.{HasDrawn}
 use Rattle.atomic_table.specs.Table.{State}
 use Rattle.cqs_rule_laws.proofs.Stale.{unmade-empty}
@@ -35,8 +35,8 @@ unmade-read q tail unmade = record {
 
 -- THE COUNTING. The segment of a drawn number is at most one past the last that is made: so one spare slot is enough.
 pub drawn-near : {E S : Type 0} (object : Object E) (primitive : Primitive E S) (passes limit : ℕ)
-    → IsClient object primitive → (s : State (Option S) (View E S))
-    (r : Ruled object primitive passes limit s) (k : ℕ)
+    {ahead : ℕ → ℕ} → IsClient object primitive → (s : State (Option S) (View E S))
+    (r : RuledAhead object primitive passes limit ahead s) (k : ℕ)
     → (k < r.hidden.queue.suspends) ⊎ (k < r.hidden.queue.resumes) → k / 32 ≤ r.segments.tail + 1
 drawn-near object primitive passes limit client s r k drawn =
     let room = r.room in
@@ -51,8 +51,8 @@ drawn-near object primitive passes limit client s r k drawn =
 
 -- a number that a pass is to suspend or to resume at was drawn
 pub drawn-near-by : {E S : Type 0} (object : Object E) (primitive : Primitive E S) (passes limit : ℕ)
-    → IsClient object primitive → (s : State (Option S) (View E S))
-    (r : Ruled object primitive passes limit s) (id : ℕ) (v : View E S) (k : ℕ)
+    {ahead : ℕ → ℕ} → IsClient object primitive → (s : State (Option S) (View E S))
+    (r : RuledAhead object primitive passes limit ahead s) (id : ℕ) (v : View E S) (k : ℕ)
     → get_elem? s.views id ≡ some v → 0 < v.weight → HasDrawn v k → k / 32 ≤ r.segments.tail + 1
 drawn-near-by object primitive passes limit client s r id v k here on has =
     drawn-near object primitive passes limit client s r k (⊎_elim
@@ -67,7 +67,8 @@ drawn-near-by object primitive passes limit client s r id v k here on has =
 
 -- a wait stands in a cell, so its segment was made
 pub wait-made : {E S : Type 0} (object : Object E) (primitive : Primitive E S) (passes limit : ℕ)
-    → (s : State (Option S) (View E S)) (r : Ruled object primitive passes limit s) (id : ℕ) (v : View E S) (k : ℕ)
+    {ahead : ℕ → ℕ} (s : State (Option S) (View E S)) (r : RuledAhead object primitive passes limit ahead s) (id : ℕ)
+    (v : View E S) (k : ℕ)
     → get_elem? s.views id ≡ some v → 0 < v.weight → Has k v.facts.waits → k / 32 ≤ r.segments.tail
 wait-made object primitive passes limit s r id v k here on has =
     let wait : IsWaitOf r.hidden.queue v.number k = (r.each_view id v here on).stands.waits k has in

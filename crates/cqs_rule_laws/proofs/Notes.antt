@@ -23,6 +23,8 @@ use Rattle.cqs_rule_laws.proofs.Advance.{spent-set}
 use Rattle.cqs_rule_laws.proofs.CrewViews.{apart-set, kept-set}
 use Rattle.cqs_rule_laws.proofs.Lists.{set_there, one_there, set_all, total_set, total_last, at_end, of_one}
 use Rattle.cqs_rule_laws.proofs.Shelves.{keeps-same, shelf-set, shelf-end}
+use Rattle.cqs_rule_laws.specs.Given.{IsAware}
+use Rattle.cqs_rule_laws.proofs.Given.{aware-like}
 
 module _ {E S : Type 0} where
   -- a view of no weight is set in the place of another: the live views are those of before
@@ -117,6 +119,9 @@ module _ {E S : Type 0} (object : Object E) (primitive : Primitive E S) (passes 
           sees = r.tip.sees;
         };
         shelf = shelf-end primitive.opens r.handed r.live s.homes s.views note refl refl r.shelf;
+        tied = r.tied;
+        aware = λ j u e live. old-or j u e (λ q. r.aware j u q live)
+            (λ is. let w : note.weight ≡ u.weight = ap weight is in absurd (omega arith));
         spent = λ j u e weightless. old-or j u e (λ q. r.spent j u q weightless)
             (λ is. subst IsSpent is (record { numberless = λ n h. h; dutiless = refl; retireless = refl }));
       }
@@ -195,6 +200,11 @@ module _ {E S : Type 0} (object : Object E) (primitive : Primitive E S) (passes 
     tip = tip-set r.tip;
     shelf = shelf-set primitive.opens r.handed r.live s.homes s.views id v w here (omega arith)
         (record { live = omega arith; laid = refl; keeps = keeps-same primitive.opens v }) r.shelf;
+    tied = r.tied;
+    aware = set_all (λ j u. 0 < u.weight → IsAware object.gives primitive.opens (length s.homes) r.log u) s.views id w
+        (λ live. aware-like object.gives primitive.opens (length s.homes) r.log v w one one refl (λ j o. o)
+        (r.aware id v here (omega arith)))
+        (λ j u apart at live. r.aware j u at live);
     spent = spent-set object primitive passes limit s.views id w (omega arith) r.spent;
   }
     where
@@ -295,6 +305,8 @@ module _ {E S : Type 0} (object : Object E) (primitive : Primitive E S) (passes 
       laid = λ j x at live. r.shelf.laid j x (was j x at live) live;
       last = λ k bare. r.shelf.last k (λ j x at live. bare j x (on j x at live) live);
     };
+    tied = r.tied;
+    aware = λ j x at live. r.aware j x (was j x at live) live;
     spent = set_all (λ j x. x.weight ≡ 0 → IsSpent x) s.views id spent
         (λ z. record { numberless = λ n h. h; dutiless = refl; retireless = refl })
         (λ j x apart at. r.spent j x at);

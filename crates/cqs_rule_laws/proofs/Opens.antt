@@ -1,5 +1,5 @@
 -- The rule holds as a queue opens.
-use Rattle.std.proofs.Common.{◌≡◌, ◌⊎◌, ℕ, zero, suc, ◌+◌, ◌-◌, ◌*◌, ◌/◌, ◌%◌, ◌<◌, ◌≤◌, true, false, List, [], ◌∷◌, ◌++◌, length, replicate, sym, refl, ap, ◌∙◌, subst, inl, inr, arith, Some, None, slice_get, nat_lt, nat_le, lt-ltb, le-ltb, le-leb, ne_eqb, leb-true, if◌then◌else◌}
+use Rattle.std.proofs.Common.{◌≡◌, ◌⊎◌, ℕ, zero, suc, ◌+◌, ◌-◌, ◌*◌, ◌/◌, ◌%◌, ◌<◌, ◌≤◌, true, false, List, [], ◌∷◌, ◌++◌, length, replicate, sym, refl, ap, ◌∙◌, subst, inl, inr, arith, Some, None, slice_get, nat_lt, nat_le, lt-ltb, le-ltb, le-leb, ne_eqb, leb-true, if◌then◌else◌, map}
 use Rattle.std.specs.Prelude.{slice_index}
 use Rattle.std.proofs.lemmas.List.{length-replicate, length_push, get_or_append_left, get_or_push}
 use Rattle.std.proofs.lemmas.Bool.{cases_lt, and_parts, lt-leb}
@@ -39,6 +39,8 @@ use Rattle.cqs_rule_laws.specs.Opened.{value_cell, first_payload, first_hidden, 
 use Rattle.cqs_rule_laws.proofs.CellsStand.{word-number}
 use Rattle.cqs_rule_laws.proofs.Lists.{all_draw}
 use Rattle.cqs_rule_laws.proofs.Shelves.{shelf-opens}
+use Rattle.cqs_rule_laws.specs.Given.{IsAware}
+use Rattle.cqs_rule_laws.proofs.Given.{aware-whole}
 
 module _ {A : Type 0} where
   pub get-replicate : (n i : ℕ) (a : A) → i < n → slice_get (replicate n a) i ≡ Some a
@@ -208,6 +210,10 @@ module _ {E S : Type 0} (object : Object E) (primitive : Primitive E S) (passes 
     kept = λ n low. record { place = 0; view = first; there = refl; live = omega arith; has = inl (omega arith) };
     tip = record { place = 0; view = first; there = refl; live = omega arith; sees = inl refl };
     shelf = shelf-opens primitive.opens 1 count first refl refl;
+    tied = λ k low. refl;
+    aware = λ j v e live. subst (IsAware object.gives primitive.opens (length (map some (replicate count None))) [])
+        (only-one first v j e).1
+        (aware-whole object.gives primitive.opens (length (map some (replicate count None))) [] first refl refl);
     noted = λ j v e. subst (λ (u : View E S). IsPrefix u.seen []) (only-one first v j e).1 ([], refl);
     each_segment = λ j v e. subst (KnowsSegments slots (first_segments made)) (only-one first v j e).1
         (record {

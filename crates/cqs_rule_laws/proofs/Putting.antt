@@ -14,11 +14,12 @@ use Rattle.cqs_rule_laws.specs.Lists.{Has}
 use Rattle.cqs_rule_laws.specs.Manner.{Suits}
 use Rattle.cqs_rule_laws.specs.Object.{Object, Primitive}
 use Rattle.cqs_rule_laws.specs.Ruled.{Ruled}
-use Rattle.cqs_rule_laws.specs.Slots.{laid_in, taken_off}
-use Rattle.cqs_rule_laws.specs.SlotSteps.{HandedIn, LaysValue, put_by}
+use Rattle.cqs_rule_laws.specs.Slots.{laid_in, handed_in, taken_off}
+use Rattle.cqs_rule_laws.specs.SlotSteps.{HandedBy, LaysValue, put_by}
 use Rattle.cqs_rule_laws.proofs.Counters.{ReachesFew, reached-so}
-use Rattle.cqs_rule_laws.proofs.Handing.{hand-in, giving, off-here}
-use Rattle.cqs_rule_laws.proofs.Lists.{set_there, longer}
+use Rattle.cqs_rule_laws.proofs.Handing.{hand-in, giving, off-here, handed-here}
+use Rattle.cqs_rule_laws.proofs.Given.{once, once-owned, tied-ahead, last-tied}
+use Rattle.cqs_rule_laws.proofs.Lists.{passed-by, set_there, longer}
 use Rattle.cqs_rule_laws.proofs.Shelves.{never-open}
 use Rattle.cqs_rule_laws.proofs.Swaps.{set_twice, saw-given, none-off}
 
@@ -71,6 +72,8 @@ module _ {E S : Type 0} (object : Object E) (primitive : Primitive E S) (passes 
           (record {
             laid = λ k x is. unlike v.laid element k x unlaid is;
             out = λ k out. absurd (never-open v k may.shut out);
+            given = λ k low. passed-by element k 1 0 (λ same. never (sym unlaid ∙ (may.value (omega arith)).laid));
+            mine = λ k some. absurd (omega arith);
           }) (few-reached element v may.idle may.has may.suits) s r homes here small in
           let told = m.2 in
           (m.0, m.1, (told.0, told.1, told.2, told.3, told.4, λ y is. absurd (never (sym unlaid ∙ is))))
@@ -78,17 +81,24 @@ module _ {E S : Type 0} (object : Object E) (primitive : Primitive E S) (passes 
       full : (y : S) → laid_in v.laid element ≡ Some (Some y) → Told
       full y laid =
           let one = may.one in
-          let t = hand-in object primitive passes limit client s r id v element y here (omega arith) (inl laid) in
+          let known = r.each_view id v here (omega arith) in
+          let stood = r.shelf.laid id v here (omega arith) element (Some y) laid in
+          let lies = may.value (let low = stood.2 in omega arith) in
+          let t = hand-in object primitive passes limit client (once element) s r id v element y here (omega arith)
+          (inl laid)
+          (tied-ahead object.gives (length s.homes) r.log v.handed r.handed element y lies.last known.sees.handed_in
+          lies.filled r.tied) in
           let g : View E S = giving object primitive passes limit client v r.handed element y in
           let s' : State (Option S) (View E S) =
           record { words = s.words; homes = s.homes; views = set s.views id g } in
-          let known = r.each_view id v here (omega arith) in
           let more = longer v.handed r.handed ((element, y) ∷ []) known.sees.handed_in in
           let m = reached-so object primitive passes limit client slots id (g, me.1) puts stage.idle one_element element
           refl may.one may.suits may.idle (λ k. refl) may.has may.fits
           (record {
             laid = λ k x is. unlike (taken_off element v.laid) element k x (off-here element v.laid) is;
             out = λ k out. absurd (never-open v k may.shut out);
+            given = λ k low. refl;
+            mine = λ k some. once-owned element k (primitive.opens v.facts.has) stood.1 some;
           }) (few-reached element g may.idle may.has may.suits) s' t.0 homes (set_there s.views id v g here) small in
           let w = m.0 in
           let told = m.2 in (
@@ -106,13 +116,17 @@ module _ {E S : Type 0} (object : Object E) (primitive : Primitive E S) (passes 
               told.4,
               λ z q.
                   let same : y ≡ z = same_Some y z (same_Some (Some y) (Some z) (sym laid ∙ q)) in
-                  subst (λ u. HandedIn element u v w) same
-                  (record {
-                    before = r.handed;
-                    is = m.3 ∙ t.1;
-                    old = known.sees.handed_in;
-                    whole = λ a. sym (known.alone a).3;
-                    off = ap (λ l. laid_in l element) m.4 ∙ off-here element v.laid;
+                  subst (λ u. HandedBy object element u v w) same (record {
+                    handed = (record {
+                      before = r.handed;
+                      is = m.3 ∙ t.1;
+                      old = known.sees.handed_in;
+                      whole = λ a. sym (known.alone a).3;
+                      off = ap (λ l. laid_in l element) m.4 ∙ off-here element v.laid;
+                    });
+                    numbered = last-tied object.gives slots w.seen w.handed element y
+                        (let low = stood.2 in omega arith) m.5
+                        (ap (λ l. handed_in l element) (m.3 ∙ t.1) ∙ handed-here r.handed element y);
                   }),
             ),
           )
@@ -121,8 +135,8 @@ module _ {E S : Type 0} (object : Object E) (primitive : Primitive E S) (passes 
       lies x is =
           let one = may.one in
           let low : element < length s.homes = (r.shelf.laid id v here (omega arith) element x is).2 in
-          let value = may.value (subst (λ z. element < z) homes low) x is in
-          full value.0 (is ∙ ap Some value.1)
+          let value = may.value (subst (λ z. element < z) homes low) in
+          full value.value value.laid
 
       chosen : (o : Option (Option S)) → laid_in v.laid element ≡ o → Told
       chosen None is = bare is

@@ -46,6 +46,8 @@ use Rattle.cqs_rule_laws.proofs.Segments.{knows-later, made-later}
 use Rattle.cqs_rule_laws.proofs.Shelves.{keeps-all, shelf-set}
 use Rattle.cqs_rule_laws.proofs.Spares.{slots-append, are-append, are-else, are-last, is-spare, spares-set, spares-kept, distinct-append, distinct-last, distinct-left}
 use Rattle.cqs_rule_laws.proofs.Words.{crew-else, counters-else, idle-else, client-above}
+use Rattle.cqs_rule_laws.specs.Given.{IsAware}
+use Rattle.cqs_rule_laws.proofs.Given.{aware-like}
 
 -- the view of a pass that made such a step: it knows all segments that are made
 abbrev pub left : {E S : Type 0} → View E S → Segments → List Spare → List (ℕ × ℕ) → List ℕ → List ℕ → View E S
@@ -179,6 +181,12 @@ module _ {E S : Type 0} (object : Object E) (primitive : Primitive E S) (passes 
         shelf = shelf-set primitive.opens r.handed r.live s.homes s.views id v w here (omega arith)
             (record { live = omega arith; laid = refl; keeps = keeps-all primitive.opens v w.facts refl (λ j o. o) })
             r.shelf;
+        tied = r.tied;
+        aware = set_all (λ j x. 0 < x.weight
+            → IsAware object.gives primitive.opens (length s.homes) r.log x) s.views id w
+            (λ on. aware-like object.gives primitive.opens (length s.homes) r.log v w one one refl (λ j o. o)
+            (r.aware id v here (omega arith)))
+            (λ j x apart at on. r.aware j x at on);
         noted = set_all (λ j x. IsPrefix x.seen r.log) s.views id w (r.noted id v here)
             (λ j x apart at. r.noted j x at);
         each_segment = set_all (λ j x. KnowsSegments r.slots u x) s.views id w

@@ -1,5 +1,5 @@
 -- A slot is taken from its home, and put back.
-use Rattle.std.proofs.Common.{◌≡◌, ◌≢◌, ◌⊎◌, ℕ, ◌<◌, ◌==◌, true, List, [], ◌∷◌, ◌++◌, length, set, sym, refl, ap, ◌∙◌, subst, ⊎_elim, inl, inr, arith, length-set, Option, Some, None, if◌then◌else◌, zero, suc, append_assoc}
+use Rattle.std.proofs.Common.{◌≡◌, ◌≢◌, ◌⊎◌, ℕ, ◌<◌, ◌==◌, true, List, [], ◌∷◌, ◌++◌, length, set, sym, refl, ap, ◌∙◌, subst, ⊎_elim, inl, inr, arith, length-set, Option, Some, None, if◌then◌else◌, zero, suc, append_assoc, slice_get}
 use Rattle.std.specs.Prelude.{slice_index, slice_set}
 use Rattle.std.proofs.lemmas.List.{append-nil, set-get_or}
 use Rattle.std.proofs.lemmas.Option.{same_Some}
@@ -14,15 +14,17 @@ use Rattle.cqs_rule_laws.specs.declared.view.Facts.{Facts}
 use Rattle.cqs_rule_laws.specs.declared.view.View.{View}
 use Rattle.cqs_rule_laws.specs.Alone.{TellsAlone}
 use Rattle.cqs_rule_laws.specs.Client.{IsClient}
+use Rattle.cqs_rule_laws.specs.Given.{values_for, times_given}
 use Rattle.cqs_rule_laws.specs.Inside.{IsInside}
 use Rattle.cqs_rule_laws.specs.Lists.{Has, IsPrefix}
 use Rattle.cqs_rule_laws.specs.Object.{Object, Primitive}
 use Rattle.cqs_rule_laws.specs.Ruled.{Ruled}
 use Rattle.cqs_rule_laws.specs.Saw.{Saw, IsLive}
-use Rattle.cqs_rule_laws.specs.Slots.{laid_in, taken_off, LaysNone, MayOpen, Shelf}
+use Rattle.cqs_rule_laws.specs.Slots.{laid_in, handed_in, taken_off, LaysNone, MayOpen, Shelf}
 use Rattle.cqs_rule_laws.specs.SlotSteps.{TookOut, PutBack, Swapped, HandedIn, took_out, put_back, filled}
-use Rattle.cqs_rule_laws.proofs.Handing.{chosen, passed-by, turned, one-opens, reshelf, hand-in, giving, off-here, off-else}
-use Rattle.cqs_rule_laws.proofs.Lists.{set_there, one_there, set_all, prefix-then}
+use Rattle.cqs_rule_laws.proofs.Handing.{turned, one-opens, reshelf, hand-in, giving, off-here, off-else}
+use Rattle.cqs_rule_laws.proofs.Lists.{chosen, passed-by, set_there, one_there, set_all, prefix-then}
+use Rattle.cqs_rule_laws.proofs.Given.{same-homes, one-seen, last-tied, tied-first}
 use Rattle.cqs_rule_laws.proofs.Shelves.{back, never-open}
 
 module _ {A : Type 0} where
@@ -160,13 +162,15 @@ module _ {E S : Type 0} (object : Object E) (primitive : Primitive E S) (passes 
         homes = homes_after s.homes cs act;
         views = set s.views id (turned v out r.handed laid);
       })) (sym (set-get_or s.words 0 0))
-      (reshelf object primitive passes limit client s r id v out r.handed r.handed laid (homes_after s.homes cs act)
-      here alive (λ u before. before) ([], sym (append-nil r.handed)) (λ _. refl) r.shown shelf).0
+      (reshelf object primitive passes limit client (λ k. 0) s r id v out r.handed r.handed laid
+      (homes_after s.homes cs act) here alive
+      (λ u before. before) ([], sym (append-nil r.handed)) (λ _. refl) r.shown shelf
+      (same-homes s.homes cs act) r.tied).0
 
   -- a pass that may open the slot takes it from its home
   pub takes-out : (slots id k : ℕ) (me : Me (Option S) (View E S)) → me.0.weight ≡ 1 → me.0.facts.open_slot ≡ None
       → me.1 ≡ [] → k < slots → primitive.opens me.0.facts.has k ⊎ (me.0.alone ≡ true)
-      → Allows R slots id me 0 (λ n. n) (took_out k (step slots 0 0 0 none) me)
+      → Allows R slots id me 0 (λ n. n) (took_out object k (step slots 0 0 0 none) me)
   takes-out slots id k me one shut bare low may s r homes here small =
       let v = me.0 in
       let y = r.shelf.lies k in
@@ -206,20 +210,29 @@ module _ {E S : Type 0} (object : Object E) (primitive : Primitive E S) (passes 
         takes k y,
         there,
         t,
-        record {
-          value = y;
-          items_are = ap (λ l. (k, y) ∷ l) bare;
-          mine = λ x is. (r.shelf.laid id v here (omega arith) k x is).0;
-          last = λ is. r.shelf.last k (λ j u at alive. dite (ℕ_discrete j id)
-              (λ (same : j ≡ id). ap (λ (x : View E S). laid_in x.laid k)
-              (one_there s.views id u v (subst (λ i. get_elem? s.views i ≡ some u) same at) here) ∙ is)
-              (λ (apart : j ≢ id). nothing (laid_in u.laid k) (λ x q.
-              apart (one-opens object primitive passes limit client s r j id u v k at here alive (omega arith)
-              (inl (r.shelf.laid j u at alive k x q).1) opener)) refl));
-          is = refl;
-          more = (r.each_view id v here (omega arith)).sees.handed_in;
-          whole = λ a. sym ((r.each_view id v here (omega arith)).alone a).3;
-        },
+        (
+          record {
+            value = y;
+            items_are = ap (λ l. (k, y) ∷ l) bare;
+            mine = λ x is. (r.shelf.laid id v here (omega arith) k x is).0;
+            last = λ is. r.shelf.last k (λ j u at alive. dite (ℕ_discrete j id)
+                (λ (same : j ≡ id). ap (λ (x : View E S). laid_in x.laid k)
+                (one_there s.views id u v (subst (λ i. get_elem? s.views i ≡ some u) same at) here) ∙ is)
+                (λ (apart : j ≢ id). nothing (laid_in u.laid k) (λ x q.
+                apart (one-opens object primitive passes limit client s r j id u v k at here alive (omega arith)
+                (inl (r.shelf.laid j u at alive k x q).1) opener)) refl));
+            is = refl;
+            more = (r.each_view id v here (omega arith)).sees.handed_in;
+            whole = λ a. sym ((r.each_view id v here (omega arith)).alone a).3;
+          },
+          λ z last.
+              let seen : times_given object.gives v.seen k ≡ times_given object.gives r.log k = ⊎_elim
+              (one-seen object.gives primitive.opens (length s.homes) r.log v one (r.aware id v here (omega arith)) k
+              (omega arith))
+              (λ a. ap (λ l. times_given object.gives l k) ((r.each_view id v here (omega arith)).alone a).2) may in
+              subst (λ n. slice_get (values_for k r.handed) n ≡ Some z) (sym seen)
+              (last-tied object.gives (length s.homes) r.log r.handed k z (omega arith) r.tied last),
+        ),
       )
     where
       nothing : (o : Option (Option S)) → ((x : Option S) → o ≡ Some x → ⊥) → {z : Option (Option S)} → z ≡ o → o ≡ None
@@ -296,11 +309,15 @@ module _ {E S : Type 0} (object : Object E) (primitive : Primitive E S) (passes 
   -- a pass that is alone puts the slot back with the first value in it, which is handed in
   pub fills : (slots id k : ℕ) (me : Me (Option S) (View E S)) → me.0.weight ≡ 1
       → me.0.facts.open_slot ≡ Some k → k < slots → laid_in me.0.laid k ≡ None
+      → me.0.alone ≡ true → handed_in me.0.handed k ≡ None
       → (y : S) → me.1 ≡ (k, Some y) ∷ []
       → Allows R slots id me 0 (λ n. n) (filled k (step slots 0 0 0 none) me)
-  fills slots id k me one out low bare y is s r homes here small =
+  fills slots id k me one out low bare alone empty y is s r homes here small =
       let v = me.0 in
-      let given = hand-in object primitive passes limit client s r id v k y here (omega arith) (inr (out, bare)) in
+      let given = hand-in object primitive passes limit client (λ j. 0) s r id v k y here (omega arith)
+      (inr (out, bare))
+      (tied-first object.gives (length s.homes) r.log r.handed k y
+      (ap (λ l. handed_in l k) (sym ((r.each_view id v here (omega arith)).alone alone).3) ∙ empty) r.tied) in
       let r' = given.0 in
       let g : View E S = giving object primitive passes limit client v r.handed k y in
       let views : List (View E S) = set s.views id g in

@@ -14,7 +14,7 @@ use Rattle.cqs_rule_laws.specs.Hidden.{Hidden}
 use Rattle.cqs_rule_laws.specs.Object.{Object, Primitive}
 use Rattle.cqs_rule_laws.specs.Layout.{client_words}
 use Rattle.cqs_rule_laws.specs.Views.{grown}
-use Rattle.cqs_rule_laws.specs.Ruled.{Ruled, HasRoom, number_at, cell_count}
+use Rattle.cqs_rule_laws.specs.Ruled.{Ruled, RuledAhead, HasRoom, number_at, cell_count}
 use Rattle.cqs_rule_laws.specs.Client.{IsClient}
 use Rattle.cqs_rule_laws.specs.Saw.{Saw, IsLive}
 use Rattle.cqs_rule_laws.proofs.Advance.{Turned, advance, saw, live}
@@ -69,7 +69,8 @@ module _ {E S : Type 0} (object : Object E) (primitive : Primitive E S) (passes 
       → Type 0
   Steps s id me i x es facts w = R (stepped s i x id me.1 w keeps) × Saw object me.0 facts es w × IsLive object w
 
-  pub steps : (s : State (Option S) (View E S)) (r : R s) (id : ℕ) (me : Me (Option S) (View E S)) (i x : ℕ)
+  pub steps : {ahead : ℕ → ℕ} (s : State (Option S) (View E S))
+      (r : RuledAhead object primitive passes limit ahead s) (id : ℕ) (me : Me (Option S) (View E S)) (i x : ℕ)
       (d : Hidden) (es : List E) (facts : Facts)
       → get_elem? s.views id ≡ some me.0 → me.0.weight ≡ 1
       → Turned object primitive passes limit s r me.0 i x d es facts

@@ -1,5 +1,5 @@
 -- Steps that leave the word as it is: a load of the suspend counter, an exchange that isn't made.
-use Rattle.std.proofs.Common.{◌≡◌, ℕ, ◌+◌, ◌<◌, ◌^◌, Bool, true, false, List, [], ◌++◌, set, sym, refl, ap, ◌∙◌, subst, inr, arith, Option, Some, slice_get, nat_lt, ltb-true, if◌then◌else◌}
+use Rattle.std.proofs.Common.{◌≡◌, ℕ, ◌+◌, ◌<◌, ◌^◌, Bool, true, false, List, [], ◌++◌, set, sym, refl, ap, ◌∙◌, subst, inr, arith, Option, Some, slice_get, nat_lt, ltb-true, if◌then◌else◌, length}
 use Rattle.std.proofs.lemmas.Option.{same_Some}
 use Rattle.std.specs.Prelude.{slice_index, slice_set, count_by}
 use Rattle.std.proofs.lemmas.List.{append-nil, length-set}
@@ -10,6 +10,7 @@ use Rattle.atomic_table.specs.Table.{State, Me, keeps, step, Allows}
 use Rattle.cqs_rule_laws.specs.declared.view.View.{View}
 use Rattle.cqs_rule_laws.specs.declared.view.Facts.{Facts}
 use Rattle.cqs_rule_laws.specs.Drawn.{draws_in}
+use Rattle.cqs_rule_laws.specs.Given.{times_given}
 use Rattle.cqs_rule_laws.specs.Hidden.{Hidden, now_may_draw}
 use Rattle.cqs_rule_laws.specs.Object.{Object, Primitive}
 use Rattle.cqs_rule_laws.specs.Layout.{client_words}
@@ -26,6 +27,7 @@ use Rattle.cqs_rule_laws.specs.Settling.{times}
 use Rattle.cqs_rule_laws.proofs.Lists.{all_draw}
 use Rattle.cqs_slots.proofs.Loads.{later-same}
 use Rattle.cqs_rule_laws.proofs.Advance.{Turned}
+use Rattle.cqs_rule_laws.proofs.GivenBeside.{aware-none}
 use Rattle.cqs_rule_laws.proofs.Staying.{OthersStay}
 use Rattle.cqs_rule_laws.proofs.Drawing.{draws-word}
 use Rattle.cqs_rule_laws.proofs.Over.{over-same}
@@ -50,9 +52,10 @@ module _ {E S : Type 0} (object : Object E) (primitive : Primitive E S) (passes 
       → facts.to_retire ≡ v.facts.to_retire
       → ((k : ℕ) → r.settled k ≡ true → IsFinal (IsSmart primitive.manner.leaving) d.queue k)
       → ((k : ℕ) → IsOver (IsSmart primitive.manner.leaving) d.queue k → r.settled k ≡ true)
+      → ((k : ℕ) → k < length s.homes → times_given object.gives es k ≡ 0)
       → Turned object primitive passes limit s r v i (slice_index s.words i) d es facts
   stays s r v i d es facts counters cells room door shown others self silent owed slots draws spares duties
-      retires finals over =
+      retires finals over given =
       let same : slice_set s.words i (slice_index s.words i) ≡ s.words = set-get_or s.words i 0 in
       record {
         crew = ap (λ l. slice_index l 0) same;
@@ -74,6 +77,8 @@ module _ {E S : Type 0} (object : Object E) (primitive : Primitive E S) (passes 
         counts = λ q. let e = ap (times q) duties in omega arith;
         finals = finals;
         over = over;
+        given = given;
+        aware = aware-none object primitive passes limit s v.number r.log es given;
         same_slots = λ y. refl;
         same_spares = spares;
         leaves = λ q all low. inr (all, low, λ h. inr (subst (Has q) (sym retires) h));
@@ -98,7 +103,7 @@ module _ {E S : Type 0} (object : Object E) (primitive : Primitive E S) (passes 
       finals over =
       stays s r v i d [] facts counters cells room door
       (subst (λ l. primitive.shows d (client_words s.words) l r.handed) (sym (append-nil r.log)) shown) others self
-      (λ n apart. refl) owed slots draws spares duties retires finals over
+      (λ n apart. refl) owed slots draws spares duties retires finals over (λ k low. refl)
 
   -- nothing hidden changes, and the pass goes on to these facts
   pub looks-to : (s : State (Option S) (View E S)) (r : Ruled object primitive passes limit s) (id : ℕ)

@@ -1,12 +1,13 @@
 -- What a client owes: that its words, its history and the values handed in go with what is hidden,
 -- from the opening on and at each step of the queue.
-use Rattle.std.specs.Prelude.{◌≡◌, ◌≢◌, ◌⊎◌, ℕ, ◌+◌, ◌-◌, ◌<◌, ◌≤◌, ◌^◌, Bool, List, [], ◌∷◌, ◌++◌, length, slice_get, Option, Some}
+use Rattle.std.specs.Prelude.{◌≡◌, ◌≢◌, ◌⊎◌, ℕ, ◌+◌, ◌-◌, ◌<◌, ◌≤◌, ◌^◌, ◌==◌, Bool, List, [], ◌∷◌, ◌++◌, length, slice_get, Option, Some, if◌then◌else◌}
 use Rattle.cqs_core.specs.declared.cells.CoreCell.{CoreCell}
 use Rattle.cqs_core.specs.declared.doings.Doing.TheVariants as doing
 use Rattle.cqs_core.specs.QueueLine.{door}
 use Rattle.cqs_core.specs.QueueEither.{IsSoundEither}
 use Rattle.cqs_core.specs.QueueSteps.{QueueStep, reaches, passes_over, begins, puts, row_of, StepRow, at_counter, at_cell, Cost, no_cost, one_owed, one_element, payload_told, IsOpenStep}
 use Rattle.cqs_rule_laws.specs.declared.view.Has.{Has}
+use Rattle.cqs_rule_laws.specs.Given.{times_given}
 use Rattle.cqs_rule_laws.specs.Hidden.{Hidden, hidden_after, has_after, now_may_draw, has_both, has_none, hands_over}
 use Rattle.cqs_rule_laws.specs.Lists.{NamesOnly}
 use Rattle.cqs_rule_laws.specs.Lists as lists
@@ -35,6 +36,16 @@ KeepsSlotAt one_element payload k = k ≢ payload
 abbrev pub KeepsSlot : StepRow → ℕ → ℕ → Type 0
 KeepsSlot (at_counter row) payload k = KeepsSlotAt row.cost payload k
 KeepsSlot (at_cell row) payload k = Unit {0}
+
+-- how often a step of this row, where its payload is this, gives the slot k away
+abbrev pub pays_away : Cost → ℕ → ℕ → ℕ
+pays_away no_cost payload k = 0
+pays_away one_owed payload k = 0
+pays_away one_element payload k = if payload == k then 1 else 0
+
+abbrev pub gives_away : StepRow → ℕ → ℕ → ℕ
+gives_away (at_counter row) payload k = pays_away row.cost payload k
+gives_away (at_cell row) payload k = 0
 
 -- the payload of a step of the queue: what comes from the cell, and else what the pass resumes with
 abbrev pub IsPayload : StepRow → Has → ℕ → ℕ → Type 0
@@ -72,6 +83,10 @@ module _ {E S : Type 0} (object : Object E) (primitive : Primitive E S) where
     pub steps : (s : QueueStep) (has : Has) (payload k : ℕ) → Suits primitive.manner s
         → KeepsSlot (row_of s) payload k
         → primitive.opens has k → primitive.opens (has_after object.gains (row_of s) payload has) k
+    -- the entries of such a step give no other slot away than that of an element which is put
+    pub gives : (s : QueueStep) (p k payload j : ℕ) → Suits primitive.manner s
+        → times_given object.gives (object.entries s p k payload) j
+        ≡ gives_away (row_of s) payload j
     -- no pass holds more than the most that one may
     pub few : (c : Hidden) (words : List ℕ) (log : List E) (handed : List (ℕ × S)) (p : ℕ)
         (has : Has)
@@ -85,6 +100,10 @@ module _ {E S : Type 0} (object : Object E) (primitive : Primitive E S) where
     -- and gets those of a pass that it takes in
     pub gathers : (mine theirs : Has) (k : ℕ) → primitive.opens mine k ⊎ primitive.opens theirs k
         → primitive.opens (has_both mine theirs) k
+    -- no others, and a pass that handed over all that it has keeps none
+    pub gathered : (mine theirs : Has) (k : ℕ) → primitive.opens (has_both mine theirs) k
+        → primitive.opens mine k ⊎ primitive.opens theirs k
+    pub bare : (has : Has) (k : ℕ) → primitive.opens (has_none has) k → ⊥
     -- a value that is handed in changes nothing else
     pub hands_in : (c : Hidden) (words : List ℕ) (log : List E) (handed : List (ℕ × S)) (k : ℕ)
         (value : S)

@@ -13,6 +13,7 @@ use Rattle.cqs_rule_laws.specs.declared.view.Opening.{Opening}
 use Rattle.cqs_rule_laws.specs.declared.view.Sighting.TheVariants.{Word}
 use Rattle.cqs_rule_laws.specs.Configured.{longest_line}
 use Rattle.cqs_rule_laws.specs.Facts.{is_owing}
+use Rattle.cqs_rule_laws.specs.Given.{times_given}
 use Rattle.cqs_rule_laws.specs.Hidden.{Hidden, stands_at}
 use Rattle.cqs_rule_laws.specs.Layout.{client_place}
 use Rattle.cqs_rule_laws.specs.Lists.{NamesOnly}
@@ -131,12 +132,15 @@ pub record IsShort (limit : ℕ) (q : Queue) : Type 0 where
   pub line : length (line q) < longest_line
   pub drawn : q.suspends < limit + 32
 
--- A step that shows the event leaves its pass the slots that it has laid something into.
-abbrev pub SlotsStay : {E S : Type 0} → Primitive E S → ℕ → Event E → (ℕ → Bool) → View E S → Type 0
-SlotsStay {E} {S} primitive slots event made v =
-    (n k : ℕ) (x : Option S) → k < slots → laid_in v.laid k ≡ Some x
-    → primitive.opens v.facts.has k
-    → primitive.opens (has_then event (moment primitive.opening v.number v.facts made n)) k
+-- A step that shows the event leaves its pass the slots that it has laid something into, and gives
+-- none away.
+pub record SlotsStay {E S : Type 0} (object : Object E) (primitive : Primitive E S) (slots : ℕ)
+    (event : Event E) (made : ℕ → Bool) (v : View E S) : Type 0 where
+  pub stay : (n k : ℕ) (x : Option S) → k < slots → laid_in v.laid k ≡ Some x
+      → primitive.opens v.facts.has k
+      → primitive.opens (has_then event (moment primitive.opening v.number v.facts made n)) k
+  pub none : (n k : ℕ) → k < slots → times_given object.gives
+      (event.entries (moment primitive.opening v.number v.facts made n)) k ≡ 0
 
 -- a pass is at no number that it is to suspend at, and watches none
 abbrev pub IsAway : Doing → Type 0

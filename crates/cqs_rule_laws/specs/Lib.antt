@@ -11,6 +11,7 @@ pub mod Settling
 pub mod Retiring
 pub mod SegmentSteps
 pub mod Slots
+pub mod Given
 pub mod Placed
 pub mod Drawn
 pub mod Ruled

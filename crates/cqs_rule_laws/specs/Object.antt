@@ -1,5 +1,5 @@
 -- What a client tells the rule of itself.
-use Rattle.std.specs.Prelude.{ℕ, Bool, List}
+use Rattle.std.specs.Prelude.{ℕ, Bool, List, Option}
 use Rattle.cqs_core.specs.QueueSteps.{QueueStep}
 use Rattle.cqs_rule_laws.specs.declared.view.Has.{Has}
 use Rattle.cqs_rule_laws.specs.declared.view.Opening.{Opening}
@@ -15,6 +15,8 @@ pub record Object (E : Type 0) : Type 1 where
   -- the entries of a step of the queue, by the pass, the number and the payload
   pub entries : QueueStep → ℕ → ℕ → ℕ → List E
   pub gains : Gains
+  -- the value slot that an entry gives away, if it gives one away
+  pub gives : E → Option ℕ
   -- the most that one pass holds, by what the object opened with
   pub most : Opening → ℕ
   -- what holds of all that one pass has, by what the object opened with

@@ -33,6 +33,7 @@ use Rattle.cqs_rule_laws.specs.Spares.{SparesHold}
 use Rattle.cqs_rule_laws.specs.Settling.{duties_in}
 use Rattle.cqs_rule_laws.specs.Retiring.{AreToLeave}
 use Rattle.cqs_rule_laws.specs.Manner.{IsSmart}
+use Rattle.cqs_rule_laws.specs.Given.{AreTied, AreAware}
 use Rattle.cqs_rule_laws.specs.Slots.{Shelf}
 use Rattle.cqs_rule_laws.specs.Views.{WasCrew, all_own, weight, Apart, Tip, SpentHasNone, first_facts}
 
@@ -248,9 +249,10 @@ module _ {E S : Type 0} (object : Object E) where
     pub opening_is : v.opening ≡ opening
     pub payload_fits : v.facts.has.payload < 2 ^ 20
 
-  -- The rule.
-  pub record Ruled (primitive : Primitive E S) (passes limit : ℕ) (s : State (Option S) (View E S))
-      : Type 0 where
+  -- The rule, where so many values were handed in for each slot ahead of the entries that are to
+  -- give it away.
+  pub record RuledAhead (primitive : Primitive E S) (passes limit : ℕ) (ahead : ℕ → ℕ)
+      (s : State (Option S) (View E S)) : Type 0 where
     pub hidden : Hidden
     pub log : List E
     pub handed : List (ℕ × S)
@@ -284,6 +286,12 @@ module _ {E S : Type 0} (object : Object E) where
     pub unused : (n : ℕ) → made ≤ n → n < passes → IsUnused hidden n
     pub tip : Tip log s.views
     pub shelf : Shelf primitive.opens handed live s.homes s.views
+    pub tied : AreTied object.gives (length s.homes) ahead log handed
+    pub aware : AreAware object.gives primitive.opens (length s.homes) log s.views
     pub noted : (j : ℕ) (v : View E S) → get_elem? s.views j ≡ some v → IsPrefix v.seen log
     pub each_segment : (j : ℕ) (v : View E S) → get_elem? s.views j ≡ some v
         → KnowsSegments slots segments v
+
+  -- The rule, as it is between any two steps.
+  abbrev pub Ruled : Primitive E S → ℕ → ℕ → State (Option S) (View E S) → Type 0
+  Ruled primitive passes limit s = RuledAhead primitive passes limit (λ k. 0) s

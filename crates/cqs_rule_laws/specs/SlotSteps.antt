@@ -1,11 +1,12 @@
 -- What the steps on value slots tell: a slot is taken from its home, put back, filled before any
 -- call, and given away with what lies in it.
-use Rattle.std.specs.Prelude.{◌≡◌, ℕ, Bool, true, List, [], ◌∷◌, ◌++◌, Option, Some, None}
+use Rattle.std.specs.Prelude.{◌≡◌, ℕ, ◌<◌, ◌==◌, Bool, true, List, [], ◌∷◌, ◌++◌, Option, Some, None, if◌then◌else◌}
 use Rattle.atomic_table.specs.Table.{Me, Step}
 use Rattle.cqs_core.specs.QueueSteps.{puts, row_of}
 use Rattle.cqs_rule_laws.specs.declared.view.View.{View}
 use Rattle.cqs_rule_laws.specs.Counts.{DrewBy, IsDrawnAt}
 use Rattle.cqs_rule_laws.specs.Events.{Event, Moved, moment, has_then}
+use Rattle.cqs_rule_laws.specs.Given.{IsLastGiven, times_given}
 use Rattle.cqs_rule_laws.specs.Kinds.{Carries}
 use Rattle.cqs_rule_laws.specs.Lists.{IsPrefix}
 use Rattle.cqs_rule_laws.specs.Object.{Object, Primitive}
@@ -62,10 +63,6 @@ module _ {E S : Type 0} where
     pub is : w ≡ record v { handed = w.handed; laid = laid }
     pub more : IsPrefix v.handed w.handed
 
-  abbrev pub took_out : ℕ → Step (Option S) → Me (Option S) (View E S) → ℕ
-      → Me (Option S) (View E S) → Type 0
-  took_out k st me n me' = TookOut k me.0 me'.0 me'.1
-
   -- a swap lays it there
   abbrev pub put_back : ℕ → Step (Option S) → Me (Option S) (View E S) → ℕ
       → Me (Option S) (View E S) → Type 0
@@ -78,16 +75,60 @@ module _ {E S : Type 0} where
   filled k st me n me' = (y : S) → me.1 ≡ (k, Some y) ∷ []
       → PutBack me.0.laid me.0 me'.0 × HandedIn k y me.0 me'.0 × (me'.1 ≡ [])
 
--- By the event the pass gives away this slot alone of those that it has laid something into, and a
--- value lies there.
-pub record GivesAway {E S : Type 0} (primitive : Primitive E S) (slots : ℕ) (event : Event E)
-    (made : ℕ → Bool)
-    (slot : ℕ) (v : View E S) : Type 0 where
+-- The pass has laid a value into the slot, and has seen one that was handed in for it before.
+pub record LaysValue {E S : Type 0} (slot : ℕ) (v : View E S) : Type 0 where
   pub value : S
   pub laid : laid_in v.laid slot ≡ Some (Some value)
+  pub last : S
+  pub filled : handed_in v.handed slot ≡ Some last
+
+-- By the event the pass gives away this slot alone, and no other of those that it has laid
+-- something into; and a value lies there.
+pub record GivesAway {E S : Type 0} (object : Object E) (primitive : Primitive E S) (slots : ℕ)
+    (event : Event E)
+    (made : ℕ → Bool)
+    (slot : ℕ) (v : View E S) : Type 0 where
+  pub lies : LaysValue slot v
+  pub gives : (n k : ℕ) → k < slots → times_given object.gives
+      (event.entries (moment primitive.opening v.number v.facts made n)) k
+      ≡ (if slot == k then 1 else 0)
   pub others : (n k : ℕ) (x : Option S) → laid_in (taken_off slot v.laid) k ≡ Some x
       → primitive.opens v.facts.has k
       → primitive.opens (has_then event (moment primitive.opening v.number v.facts made n)) k
+
+-- The value was handed in by the entry of this step, which gives the slot away.
+pub record HandedBy {E S : Type 0} (object : Object E) (slot : ℕ) (value : S)
+    (v w : View E S) : Type 0 where
+  pub handed : HandedIn slot value v w
+  pub numbered : IsLastGiven object.gives slot value w.seen w.handed
+
+-- An entry of this pass gave the slot away, and handed the value in: it is the value of this
+-- entry's number. Maybe more was seen after it.
+pub record WasHandedBy {E S : Type 0} (object : Object E) (slot : ℕ) (value : S) (v w : View E S)
+    : Type 0 where
+  pub handed : WasHandedIn slot value v w
+  pub before : List E
+  pub entry : E
+  pub since : IsPrefix v.seen before
+  pub seen : IsPrefix (before ++ entry ∷ []) w.seen
+  pub own : object.names v.number entry ≡ true
+  pub gives : object.gives entry ≡ Some slot
+  pub numbered : IsLastGiven object.gives slot value (before ++ entry ∷ []) w.handed
+
+module _ {E S : Type 0} (object : Object E) where
+  -- what was handed in last for the slot is of the last entry seen that gave it away
+  abbrev pub KnowsLast : ℕ → View E S → Type 0
+  KnowsLast k v = (y : S) → handed_in v.handed k ≡ Some y
+      → IsLastGiven object.gives k y v.seen v.handed
+
+  -- what lay there, where the pass had laid nothing, is of the last entry seen that gave it away
+  abbrev pub LayLast : ℕ → Option S → View E S → View E S → Type 0
+  LayLast k value v w = laid_in v.laid k ≡ None → (y : S) → value ≡ Some y
+      → IsLastGiven object.gives k y v.seen w.handed
+
+  abbrev pub took_out : ℕ → Step (Option S) → Me (Option S) (View E S) → ℕ
+      → Me (Option S) (View E S) → Type 0
+  took_out k st me n me' = TookOut k me.0 me'.0 me'.1 × KnowsLast k me'.0
 
 module _ {C E S : Type 0} (object : Object E) (primitive : C → Primitive E S)
     (event : Event E) where
@@ -96,7 +137,7 @@ module _ {C E S : Type 0} (object : Object E) (primitive : C → Primitive E S)
       → Me (Option S) (View E S) → Type 0
   given_by made slot st me n me' =
       Moved object primitive event made st.word me.0 n me'.0 × (me'.1 ≡ me.1) × IsLive object me'.0
-      × ((y : S) → laid_in me.0.laid slot ≡ Some (Some y) → HandedIn slot y me.0 me'.0)
+      × ((y : S) → laid_in me.0.laid slot ≡ Some (Some y) → HandedBy object slot y me.0 me'.0)
 
 module _ {E : Type 0} (object : Object E) where
   module _ {S : Type 0} where
@@ -108,12 +149,8 @@ module _ {E : Type 0} (object : Object E) where
         DrewBy object puts (row_of puts) slot me.0 n me'.0 × (me'.1 ≡ me.1) × IsLive object me'.0
         × Carries object.gains.held (row_of puts) me.0.facts me'.0.facts
         × IsDrawnAt puts me.0.facts n
-        × ((y : S) → laid_in me.0.laid slot ≡ Some (Some y) → HandedIn slot y me.0 me'.0)
-
--- What the pass has laid into the slot, if anything, is a value.
-abbrev pub LaysValue : {E S : Type 0} → ℕ → View E S → Type 0
-LaysValue {E} {S} slot v =
-    (x : Option S) → laid_in v.laid slot ≡ Some x → (y : S) × (x ≡ Some y)
+        × ((y : S) → laid_in me.0.laid slot ≡ Some (Some y)
+        → HandedBy object slot y me.0 me'.0)
 
 -- the one slot that is taken from its home is this
 abbrev pub IsOut : {S : Type 0} → ℕ → List (ℕ × Option S) → Type 0

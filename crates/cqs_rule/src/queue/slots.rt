@@ -2,8 +2,8 @@
 
 ghost use Rattle.std.specs.Prelude.{◌≡◌, ◌⊎◌, ◌<◌, true, [], ◌∷◌, Some, None};
 ghost use Rattle.cqs_rule.specs.Passes.{pass_view, client_of, slots_of, IsOf};
-ghost use Rattle.cqs_rule_laws.specs.Slots.{laid_in};
-ghost use Rattle.cqs_rule_laws.specs.SlotSteps.{TookOut, PutBack, Swapped, HandedIn, LayIn, IsOut, IsUntouched};
+ghost use Rattle.cqs_rule_laws.specs.Slots.{laid_in, handed_in};
+ghost use Rattle.cqs_rule_laws.specs.SlotSteps.{TookOut, PutBack, Swapped, HandedIn, LayIn, LayLast, KnowsLast, IsOut, IsUntouched};
 ghost use Rattle.cqs_rule.specs.Steps.{IsOpener};
 
 use crate::plays::{Filling, PuttingBack, TakingOut};
@@ -41,6 +41,7 @@ impl<C: ClientWords> Queue<C> {
             ⊎ (seat.old.me.0.alone ≡ true) }
         ensures table { seat.new.table_id ≡ seat.old.table_id }
         ensures took { TookOut slot seat.old.me.0 seat.new.me.0 seat.new.me.1 }
+        ensures last { KnowsLast C.object slot seat.new.me.0 }
     {
         load_at::<C, TakingOut<C, K>>(&self.table.shared, seat, CREW_WORD);
     }
@@ -81,6 +82,8 @@ impl<C: ClientWords> Queue<C> {
         requires item { (y : C.Slot) × (seat.old.me.1 ≡ (slot, Some y) ∷ []) }
         requires low { slot < slots_of self.now }
         requires unlaid { laid_in seat.old.me.0.laid slot ≡ None }
+        requires alone { seat.old.me.0.alone ≡ true }
+        requires empty { handed_in seat.old.me.0.handed slot ≡ None }
         ensures table { seat.new.table_id ≡ seat.old.table_id }
         ensures bare { seat.new.me.1 ≡ [] }
         ensures put { PutBack seat.old.me.0.laid seat.old.me.0 seat.new.me.0 }
@@ -104,6 +107,7 @@ impl<C: ClientWords> Queue<C> {
         requires holds { IsOpener self.now pass.old slot }
         ensures belongs { IsOf self.now pass.new }
         ensures lay { LayIn slot result (pass_view pass.old) (pass_view pass.new) }
+        ensures last { LayLast C.object slot result (pass_view pass.old) (pass_view pass.new) }
         ensures swapped { Swapped ((slot, value) ∷ (pass_view pass.old).laid)
             (pass_view pass.old) (pass_view pass.new) }
     {

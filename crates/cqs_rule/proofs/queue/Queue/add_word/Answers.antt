@@ -50,6 +50,7 @@ returns-clause-belongs g c =
       cells = same.cells ∙ b.cells;
       mode = b.mode;
       ample = b.ample;
+      looks = b.looks;
       live = e.told.2;
       opening = same.opening ∙ b.opening;
       alone = e.alone;

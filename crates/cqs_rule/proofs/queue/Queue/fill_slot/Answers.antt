@@ -3,7 +3,7 @@ use mathlib.Core.Logic.{inr}
 use Rattle.cqs_rule_laws.specs.declared.view.View.{View}
 use Rattle.cqs_rule_laws.specs.Facts.{is_owing}
 use Rattle.cqs_rule_laws.specs.Layout.{words_for}
-use Rattle.cqs_rule_laws.specs.Slots.{laid_in}
+use Rattle.cqs_rule_laws.specs.Slots.{laid_in, handed_in}
 use Rattle.cqs_rule_laws.proofs.Swaps.{inside-swapped, live-swapped, alone-swapped}
 use Rattle.cqs_rule_laws.proofs.Tries.{none-slots}
 use Rattle.cqs_rule.proofs.Slots.{fill-by, only-by, handed-by}
@@ -71,6 +71,7 @@ returns-clause-belongs g c =
       cells = ap (λ z. z.cells) is ∙ b.cells;
       mode = b.mode;
       ample = b.ample;
+      looks = b.looks;
       live = live-swapped _ _ _ swap C.object b.live;
       opening = ap (λ z. z.opening) is ∙ b.opening;
       alone = alone-swapped _ _ _ swap C.primitive b.alone;
@@ -114,6 +115,17 @@ pub put_first-requires-clause-unlaid : goal.put_first-requires-clause-unlaid
 put_first-requires-clause-unlaid g c =
     ap (λ m. laid_in m.0.laid c.args.slot) c.exchange.ensures.3
     ∙ (ap (λ z. laid_in z.laid c.args.slot) c.take_out.ensures.took.is ∙ c.requires.first.unlaid)
+
+pub put_first-requires-clause-alone : goal.put_first-requires-clause-alone
+put_first-requires-clause-alone g c =
+    ap (λ m. m.0.alone) c.exchange.ensures.3
+    ∙ (ap (λ z. z.alone) c.take_out.ensures.took.is ∙ c.requires.first.alone)
+
+pub put_first-requires-clause-empty : goal.put_first-requires-clause-empty
+put_first-requires-clause-empty g c =
+    ap (λ m. handed_in m.0.handed c.args.slot) c.exchange.ensures.3
+    ∙ (ap (λ l. handed_in l c.args.slot) (c.take_out.ensures.took.whole c.requires.first.alone)
+    ∙ c.requires.first.empty)
 
 pub returns-clause-swapped : goal.returns-clause-swapped
 returns-clause-swapped g c =

@@ -1,6 +1,6 @@
 use Rattle.std.proofs.Common.{◌≡◌, ◌+◌, ◌%◌, ◌^◌, Some, ap, subst, sym, ◌∙◌}
 use Rattle.cqs_rule_laws.specs.Events.{in_any_case}
-use Rattle.cqs_rule_laws.specs.SlotSteps.{GivesAway, HandedIn}
+use Rattle.cqs_rule_laws.specs.SlotSteps.{GivesAway, HandedBy}
 use Rattle.cqs_rule_laws.specs.Slots.{laid_in}
 use Rattle.cqs_rule_laws.proofs.Giving.{gives-at}
 use Rattle.cqs_rule.proofs.Fitting.{word-inside, moved-word}
@@ -27,7 +27,7 @@ add_at-found-requires-clause-allowed g c =
     (λ n. (n + c.from.result) % 2 ^ 64) g.K.Numbered.slot
     c.args.pass.now.live.0 c.args.pass.now.shut c.requires.word c.place.ensures
     (λ n. ap (λ k. (n + k) % 2 ^ 64) c.from.ensures)
-    (subst (λ k. GivesAway (C.primitive x) slots g.M.Shown.event in_any_case k v) c.requires.number
+    (subst (λ k. GivesAway C.object (C.primitive x) slots g.M.Shown.event in_any_case k v) c.requires.number
     c.requires.slots)
     c.requires.law
 
@@ -54,6 +54,7 @@ returns-clause-belongs g c =
       cells = same.cells ∙ b.cells;
       mode = b.mode;
       ample = b.ample;
+      looks = b.looks;
       live = e.told.2;
       opening = same.opening ∙ b.opening;
       alone = e.alone;
@@ -67,5 +68,5 @@ returns-clause-saw g c =
 pub returns-clause-given : goal.returns-clause-given
 returns-clause-given g c = λ y lies.
     subst (λ k. laid_in c.args.pass.now.seat.me.0.laid k ≡ Some (Some y)
-    → HandedIn k y c.args.pass.now.seat.me.0 c.add_at-found.new.seat.me.0) (sym c.requires.number)
-    (c.add_at-found.ensures.told.3 y) lies
+    → HandedBy g.C.ClientWords.object k y c.args.pass.now.seat.me.0 c.add_at-found.new.seat.me.0)
+    (sym c.requires.number) (c.add_at-found.ensures.told.3 y) lies

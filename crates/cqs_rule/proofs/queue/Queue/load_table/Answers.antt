@@ -68,6 +68,7 @@ returns-in-Nothing-clause-belongs g c =
       cells = same.cells ∙ b.cells;
       mode = b.mode;
       ample = b.ample;
+      looks = b.looks;
       live = e.told.2;
       opening = same.opening ∙ b.opening;
       alone = e.alone;

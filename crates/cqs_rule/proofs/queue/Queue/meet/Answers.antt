@@ -101,6 +101,7 @@ returns-clause-belongs g c =
       cells = m.cells ∙ b.cells;
       mode = b.mode;
       ample = b.ample;
+      looks = b.looks;
       live = e.told.3;
       opening = m.opening ∙ b.opening;
       alone = e.alone;

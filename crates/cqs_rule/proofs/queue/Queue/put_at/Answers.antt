@@ -1,4 +1,6 @@
-use Rattle.std.proofs.Common.{rules, ◌<◌, ◌∙◌, ap, sym, subst, length, arith}
+use Rattle.std.proofs.Common.{rules, ◌≡◌, ◌<◌, ◌∙◌, ap, sym, subst, length, arith, Some}
+use Rattle.cqs_rule_laws.specs.Slots.{laid_in}
+use Rattle.cqs_rule_laws.specs.SlotSteps.{HandedBy}
 use Rattle.cqs_rule_laws.specs.Layout.{words_for}
 use Rattle.cqs_rule_laws.proofs.CellPlaces.{resumes-inside}
 use Rattle.cqs_rule_laws.proofs.Putting.{MayPut, put}
@@ -71,7 +73,14 @@ returns-clause-belongs g c =
       cells = same.cells ∙ b.cells;
       mode = b.mode;
       ample = b.ample;
+      looks = b.looks;
       live = e.told.2;
       opening = same.opening ∙ b.opening;
       alone = e.alone;
     }
+
+pub returns-clause-given : goal.returns-clause-given
+returns-clause-given g c = λ y lies.
+    subst (λ k. laid_in c.args.pass.now.seat.me.0.laid k ≡ Some (Some y)
+    → HandedBy g.C.ClientWords.object k y c.args.pass.now.seat.me.0 c.add_at-found.new.seat.me.0)
+    (sym c.requires.number) (c.add_at-found.ensures.told.5 y) lies

@@ -1,5 +1,5 @@
 use Rattle.std.proofs.Common.{◌≡◌, ◌∙◌, [], ◌∷◌, ap, subst, arith, Some, None}
-use Rattle.cqs_rule_laws.specs.Slots.{laid_in}
+use Rattle.cqs_rule_laws.specs.Slots.{laid_in, handed_in}
 use Rattle.cqs_rule_laws.proofs.Swaps.{fills}
 use Rattle.cqs_rule.proofs.queue.Queue.put_first.Goals as goal
 
@@ -13,7 +13,8 @@ load_at-requires-clause-allowed g c =
     let item = c.requires.item in
     fills C.object (C.primitive x) _ _ (g.met.C.ClientWords.keeps x) _ _ g.K.Numbered.slot
     c.args.seat.now.me c.requires.one (c.requires.out ∙ ap Some slot) (omega arith)
-    (subst (λ k. laid_in v.laid k ≡ None) slot c.requires.unlaid) item.0
+    (subst (λ k. laid_in v.laid k ≡ None) slot c.requires.unlaid) c.requires.alone
+    (subst (λ k. handed_in v.handed k ≡ None) slot c.requires.empty) item.0
     (item.1 ∙ ap (λ k. (k, Some item.0) ∷ []) slot)
 
 pub returns-clause-bare : goal.returns-clause-bare

@@ -46,6 +46,7 @@ loop-pass-init g c =
         cells = saw.same.cells ∙ c.requires.belongs.cells;
         mode = c.requires.belongs.mode;
         ample = c.requires.belongs.ample;
+        looks = c.requires.belongs.looks;
         live = e.told.2;
         alone = e.alone;
         opening = saw.same.opening ∙ c.requires.belongs.opening;
@@ -82,7 +83,7 @@ split_seat-seat-requires g c =
       c.make-found.ensures.table ∙ table,
       crew-inside c.args.self.now c.loop-pass.pass table,
       splits C.object (C.primitive x) _ _ (g.met.C.ClientWords.keeps x) _ _ made.weight
-          (ap (λ f. f.open_slot) made.facts),
+          (ap (λ f. f.open_slot) made.facts) made.seen,
     )
 
 pub overflow_sub-pass : goal.overflow_sub-pass
@@ -155,6 +156,7 @@ returns-then-found-saw-clause-belongs g c =
       cells = l.cells ∙ old.cells;
       mode = old.mode;
       ample = old.ample;
+      looks = old.looks;
       live = l.alive;
       alone = not-alone C.primitive c.split_seat-seat.new.seat.me.0 l.lonely;
       opening = l.opening ∙ old.opening;
@@ -205,6 +207,7 @@ returns-then-found-saw-clause-new_belongs g c =
       cells = b.cells ∙ old.cells;
       mode = old.mode;
       ample = old.ample;
+      looks = old.looks;
       live = b.alive;
       alone = not-alone C.primitive c.split_seat-seat.result.me.0 b.lonely;
       opening = b.opening ∙ old.opening;
@@ -250,6 +253,7 @@ loop-pass-preserved g c =
         cells = saw.same.cells ∙ c.loop-pass.invariant.0.cells;
         mode = c.loop-pass.invariant.0.mode;
         ample = c.loop-pass.invariant.0.ample;
+        looks = c.loop-pass.invariant.0.looks;
         live = e.alive;
         alone = e.alone;
         opening = saw.same.opening ∙ c.loop-pass.invariant.0.opening;

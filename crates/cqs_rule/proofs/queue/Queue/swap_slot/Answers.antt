@@ -5,7 +5,7 @@ use Rattle.cqs_rule_laws.specs.Facts.{is_owing}
 use Rattle.cqs_rule_laws.specs.Layout.{words_for}
 use Rattle.cqs_rule_laws.proofs.Swaps.{inside-swapped, live-swapped, alone-swapped}
 use Rattle.cqs_rule_laws.proofs.Tries.{none-slots}
-use Rattle.cqs_rule.proofs.Slots.{swap-by, only-by, lay-by}
+use Rattle.cqs_rule.proofs.Slots.{swap-by, only-by, lay-by, last-by}
 use Rattle.cqs_rule_laws.proofs.Places.{goes-swapped}
 use Rattle.cqs_rule.proofs.Homes.{keeps-homes}
 use Rattle.cqs_rule.proofs.Spared.{same-spares}
@@ -65,6 +65,7 @@ returns-clause-belongs g c =
       cells = ap (λ z. z.cells) is ∙ b.cells;
       mode = b.mode;
       ample = b.ample;
+      looks = b.looks;
       live = live-swapped _ _ _ swap C.object b.live;
       opening = ap (λ z. z.opening) is ∙ b.opening;
       alone = alone-swapped _ _ _ swap C.primitive b.alone;
@@ -126,3 +127,11 @@ returns-clause-lay g c =
     c.take_out.ensures.took
     c.args.value c.put_back.new.seat.me.0 c.exchange-found.new.seat.me c.exchange-found.ensures.3
     c.put_back.ensures.put c.exchange-found.result c.exchange-found.ensures.2
+
+pub returns-clause-last : goal.returns-clause-last
+returns-clause-last g c =
+    last-by c.args.slot c.args.pass.now.seat.me.0 c.take_out.new.seat.me.0 c.take_out.new.seat.me.1
+    c.take_out.ensures.took
+    c.args.value c.put_back.new.seat.me.0 c.exchange-found.new.seat.me c.exchange-found.ensures.3
+    c.put_back.ensures.put c.exchange-found.result c.exchange-found.ensures.2 g.C.ClientWords.object
+    c.take_out.ensures.last

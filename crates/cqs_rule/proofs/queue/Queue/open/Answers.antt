@@ -11,7 +11,7 @@ use Rattle.cqs_rule_laws.proofs.Opens.{config-bounds}
 use Rattle.cqs_rule.specs.Homes.{KnowsHomes}
 use Rattle.cqs_rule.proofs.Homes.{no-homes}
 use Rattle.cqs_rule.proofs.Spared.{no-spares}
-use Rattle.cqs_rule.proofs.queue.Queue.new.Goals as goal
+use Rattle.cqs_rule.proofs.queue.Queue.open.Goals as goal
 
 few-cells : (config : Config) (values : ℕ) → is_config config ≡ true → values ≤ 4096
     → cell_count config.passes config.limit values < 137438953472
@@ -70,6 +70,7 @@ returns-clause-belongs g c =
           ∙ sym (λ i. cell_count (h.key.1 i) config.limit (C.primitive (h.key.0 i)).values))
           (omega (arith, c.from-spares.ensures) ∙ sym (ap (λ n. 2 * n) h.key.1)) c.from-3.ensures;
       live = h.seat.1;
+      looks = ap (λ x. (C.primitive x).opening.looks) h.key.0 ∙ c.requires.looks;
       opening = ap (λ z. z.opening) me ∙ sym (ap (λ x. (C.primitive x).opening) h.key.0);
       alone = h.seat.2;
     }

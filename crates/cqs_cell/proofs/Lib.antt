@@ -3,3 +3,4 @@ pub mod Crossing
 pub mod Made
 pub mod Looking
 pub mod Polls
+pub mod Worked

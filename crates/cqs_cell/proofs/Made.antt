@@ -1,18 +1,21 @@
 -- What an exchange on a cell tells: it was made, or the cell was found otherwise.
-use Rattle.std.proofs.Common.{◌≡◌, ◌≢◌, ℕ, ◌<◌, ◌≤◌, ◌^◌, List, [], ◌∷◌, ◌++◌, length, Some, sym, refl, ap, ◌∙◌, subst, ⊎_elim, arith}
+use Rattle.std.proofs.Common.{◌≡◌, ◌≢◌, ℕ, ◌<◌, ◌≤◌, ◌^◌, List, [], ◌∷◌, ◌++◌, length, Some, sym, refl, ap, ◌∙◌, subst, ⊎_elim, append_assoc, arith}
 use Rattle.std.proofs.lemmas.List.{append-nil}
 use Rattle.cqs_core.specs.declared.cells.CoreState.{CoreState}
 use Rattle.cqs_core.specs.declared.cells.CoreState.TheVariants as state
 use Rattle.cqs_core.specs.QueueCells.{rank, IsBare}
 use Rattle.cqs_core.specs.QueueMoves.{IsCancelling}
 use Rattle.cqs_core.specs.QueueSound.{IsUntaken}
+use Rattle.cqs_core.specs.QueueStages.{IsWatched, MayFind}
 use Rattle.cqs_core.specs.QueueSteps.{QueueStep, row_of, CellRow, StepRow, at_counter, at_cell, payload_told}
 use Rattle.cqs_words.specs.declared.cell.CellState.{CellState}
+use Rattle.cqs_words.specs.declared.cell.CellState.TheVariants as shown
 use Rattle.cqs_words.specs.declared.cell.CellWord.{CellWord}
 use Rattle.cqs_words.specs.Cell.{unpacked_cell, index_in}
 use Rattle.cqs_rule_laws.specs.declared.config.Place.{Place}
 use Rattle.cqs_rule_laws.specs.declared.view.Facts.{Facts}
 use Rattle.cqs_rule_laws.specs.declared.view.Glimpse.{Glimpse}
+use Rattle.cqs_rule_laws.specs.declared.view.Opening.{Opening}
 use Rattle.cqs_rule_laws.specs.declared.view.Sighting.TheVariants.{Cell}
 use Rattle.cqs_rule_laws.specs.declared.view.View.{View}
 use Rattle.cqs_rule_laws.specs.Drawn.{draws_in, TellsCome}
@@ -21,7 +24,7 @@ use Rattle.cqs_rule_laws.specs.Facts.{facts_worked, facts_missed}
 use Rattle.cqs_rule_laws.specs.Manner.{Leaving, asks, passes_on, at_once, Asks, IsSmart}
 use Rattle.cqs_rule_laws.specs.Placed.{KnowsPlace}
 use Rattle.cqs_rule_laws.specs.Object.{Object, Primitive}
-use Rattle.cqs_rule_laws.specs.Ruled.{word_of}
+use Rattle.cqs_rule_laws.specs.Ruled.{shown_state, word_of}
 use Rattle.cqs_rule_laws.specs.Saw.{Saw, WasFound}
 use Rattle.cqs_rule_laws.proofs.Calls.{saw-then}
 use Rattle.cqs_rule_laws.proofs.CellSteps.{word_of-injective}
@@ -32,7 +35,7 @@ use Rattle.cqs_rule.proofs.Counting.{found-counted, one-head, saw-after}
 use Rattle.cqs_rule.proofs.Crossed.{stays-missed}
 use Rattle.cqs_rule.proofs.Places.{knows-saw}
 use Rattle.cqs_cell.specs.Crossings.{CrossesRow, CrossesBy, Crosses, IsSureBy, IsLastBy}
-use Rattle.cqs_cell.specs.Transitions.{facts_since, Made, Missed, MissedCell, MissedCellBy, MadeBy}
+use Rattle.cqs_cell.specs.Transitions.{facts_since, cells_seen, Made, Missed, MissedAfter, MissedCell, MissedCellBy, MadeBy}
 use Rattle.cqs_core.proofs.QueueRows.{rows}
 use Rattle.cqs_core.proofs.QueueUniform.{IsCellRow, IsRow, GoesOn}
 use Rattle.cqs_rule_laws.proofs.Settled.{rank-most}
@@ -170,6 +173,19 @@ module _ {C E S : Type 0} (object : Object E) (primitive : C → Primitive E S) 
           (λ (t : rank row.finds < rank m.missed.glimpse.state). sure m.missed.glimpse.state m.missed.may t)
           (since.since m.missed.number)
 
+  -- an exchange that wants the cell as it was found last, and misses, finds it in another state
+  pub never-back : (row : CellRow) (k payload : ℕ) (cell : CellWord) (v w : View E S)
+      → (n : MissedCell object primitive row k payload v cell w)
+      → v.facts.last ≡ Some (record { number = k; state = row.finds; payload = payload })
+      → n.missed.glimpse.state ≢ row.finds
+  never-back row k payload cell v w n last stands =
+      let since = subst (SinceLast n.missed.glimpse) last n.missed.since in
+      let same : rank n.missed.glimpse.state ≡ rank row.finds = ap rank stands in
+      ⊎_elim
+      (λ (t : (n.missed.glimpse.state ≡ row.finds) × (n.missed.glimpse.payload ≡ payload)). n.other t.0 t.1)
+      (λ (t : rank row.finds < rank n.missed.glimpse.state). absurd (omega arith))
+      (since.since n.missed.number)
+
   -- a step that was made after one that missed
   pub made-after : (row row' : CellRow) (s : QueueStep) (k payload : ℕ) (state : CellState) (v u w : View E S)
       → Missed object primitive row k v state u → Made object primitive s row' 0 k payload u w
@@ -219,6 +235,47 @@ module _ {C E S : Type 0} (object : Object E) (primitive : C → Primitive E S) 
   made_after_miss row row' s k payload cell v u w m d =
       made-after row row' s k cell.payload cell.state v u w m.missed d
 
+  -- one exchange that missed, and two
+  pub missed-once : (row : CellRow) (k : ℕ) (state : CellState) (v w : View E S)
+      → Missed object primitive row k v state w → MissedAfter object primitive row 1 k v state w
+  missed-once row k state v w m = record {
+    words = [];
+    few = omega arith;
+    word = m.word;
+    glimpse = m.glimpse;
+    number = m.number;
+    cell = m.cell;
+    state_is = m.state_is;
+    may = m.may;
+    saw = subst (λ z. Saw object v (facts_since (v.facts.found ++ Cell z m.word ∷ []) (Some m.glimpse) v.facts) [] w)
+        m.number m.saw;
+    was = m.was;
+  }
+
+  pub missed-twice : (row : CellRow) (k : ℕ) (first state : CellState) (v u w : View E S)
+      → Missed object primitive row k v first u → Missed object primitive row k u state w
+      → MissedAfter object primitive row 1 k v state w
+  missed-twice row k first state v u w m n =
+      let found : facts_missed n.word n.glimpse u.facts
+      ≡ facts_since (v.facts.found ++ cells_seen k (m.word ∷ n.word ∷ [])) (Some n.glimpse) v.facts =
+      ap (facts_missed n.word n.glimpse) m.saw.facts_are
+      ∙ ((λ i. facts_since ((v.facts.found ++ Cell (m.number i) m.word ∷ []) ++ Cell (n.number i) n.word ∷ [])
+      (Some n.glimpse) v.facts)
+      ∙ (λ i. facts_since (append_assoc v.facts.found (Cell k m.word ∷ []) (Cell k n.word ∷ []) i) (Some n.glimpse)
+      v.facts)) in
+      record {
+        words = m.word ∷ [];
+        few = omega arith;
+        word = n.word;
+        glimpse = n.glimpse;
+        number = n.number;
+        cell = n.cell;
+        state_is = n.state_is;
+        may = subst (λ (o : Opening). MayFind o.sync row.works_at n.glimpse.state) m.saw.same.opening n.may;
+        saw = subst (λ (z : Facts). Saw object v z [] w) found (saw-then object v u w _ _ [] m.saw n.saw);
+        was = n.was;
+      }
+
 -- What an exchange that missed leaves: the pass knows what it found, and is where it was.
 pub record After {E S : Type 0} (k left : ℕ) (s : CoreState) (v u : View E S) : Type 0 where
   pub doing : u.facts.doing ≡ v.facts.doing
@@ -256,6 +313,19 @@ delegated-left state.Broken is other = absurd is
 delegated-left state.Resumed is other = absurd is
 delegated-left state.Cancelled is other = absurd is
 delegated-left state.Refused is other = absurd is
+
+-- a value that its resume watches and that isn't there was taken
+pub taken-away : (x : CoreState) → IsWatched x → x ≢ state.Value → shown_state x ≡ shown.Taken
+taken-away state.Taken is other = refl
+taken-away state.Value is other = absurd (other refl)
+taken-away state.Empty is other = absurd is
+taken-away state.Waiter is other = absurd is
+taken-away state.Broken is other = absurd is
+taken-away state.Resumed is other = absurd is
+taken-away state.Cancelling is other = absurd is
+taken-away state.Delegated is other = absurd is
+taken-away state.Cancelled is other = absurd is
+taken-away state.Refused is other = absurd is
 
 -- nobody takes a value but its suspend
 pub none-takes : (x : CoreState) → IsUntaken x → 1 < rank x → ⊥

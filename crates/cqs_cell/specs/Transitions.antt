@@ -1,5 +1,5 @@
 -- What a transition of a cell tells the pass that tried it.
-use Rattle.std.specs.Prelude.{◌≡◌, ◌≢◌, ℕ, ◌≤◌, Bool, true, false, List, [], ◌++◌, length, Option, Some, None}
+use Rattle.std.specs.Prelude.{◌≡◌, ◌≢◌, ℕ, ◌≤◌, Bool, true, false, List, [], ◌∷◌, ◌++◌, length, Option, Some, None}
 use Rattle.cqs_core.specs.QueueCells.{IsBare}
 use Rattle.cqs_core.specs.QueueStages.{MayFind}
 use Rattle.cqs_core.specs.QueueSteps.{QueueStep, row_of, CellRow, StepRow, at_counter, at_cell, payload_told, settles, settles_owing, refuses, refuses_value}
@@ -11,6 +11,7 @@ use Rattle.cqs_rule.specs.declared.queue.Pass.{Pass}
 use Rattle.cqs_rule_laws.specs.declared.view.Facts.{Facts}
 use Rattle.cqs_rule_laws.specs.declared.view.Glimpse.{Glimpse}
 use Rattle.cqs_rule_laws.specs.declared.view.Sighting.{Sighting}
+use Rattle.cqs_rule_laws.specs.declared.view.Sighting.TheVariants.{Cell}
 use Rattle.cqs_rule_laws.specs.declared.view.View.{View}
 use Rattle.cqs_rule_laws.specs.Drawn.{TellsCome}
 use Rattle.cqs_rule_laws.specs.Exchanges.{FoundCell, SinceLast, HasCell}
@@ -26,6 +27,11 @@ use Rattle.cqs_rule.specs.Counting.{counted_after}
 -- a pass at these facts, with these found besides, and another glimpse
 abbrev pub facts_since : List Sighting → Option Glimpse → Facts → Facts
 facts_since found last f = record f { last = last; found = found }
+
+-- these words were found in the cell of the number k, in order
+abbrev pub cells_seen : ℕ → List ℕ → List Sighting
+cells_seen k [] = []
+cells_seen k (word ∷ words) = Cell k word ∷ cells_seen k words
 
 module _ {C E S : Type 0} (object : Object E) (primitive : C → Primitive E S) where
   -- A step of this row was made at the cell of the number k: it found the cell in the state that
@@ -67,6 +73,23 @@ module _ {C E S : Type 0} (object : Object E) (primitive : C → Primitive E S) 
     pub saw : Saw object v (facts_missed word glimpse v.facts) [] w
     pub was : WasFound primitive (HasCell glimpse) [] w
 
+  -- It wasn't made by several exchanges, of which the last found the cell of the number k in this
+  -- state; those before, at most so many, found these words there. The pass is at what it was, and
+  -- knows what was found last.
+  pub record MissedAfter (row : CellRow) (tried : ℕ) (k : ℕ) (v : View E S) (state : CellState)
+      (w : View E S) : Type 0 where
+    pub words : List ℕ
+    pub few : length words ≤ tried
+    pub word : ℕ
+    pub glimpse : Glimpse
+    pub number : glimpse.number ≡ k
+    pub cell : FoundCell word glimpse
+    pub state_is : shown_state glimpse.state ≡ state
+    pub may : MayFind v.opening.sync row.works_at glimpse.state
+    pub saw : Saw object v (facts_since (v.facts.found ++ cells_seen k (words ++ word ∷ []))
+        (Some glimpse) v.facts) [] w
+    pub was : WasFound primitive (HasCell glimpse) [] w
+
   -- the same of an exchange that wanted this payload there, with the one that was found
   pub record MissedCell (row : CellRow) (k payload : ℕ) (v : View E S) (cell : CellWord)
       (w : View E S) : Type 0 where
@@ -87,6 +110,10 @@ module _ {C E S : Type 0} (object : Object E) (primitive : C → Primitive E S) 
   MissedBy (at_counter row) k v found w = ⊥
   MissedBy (at_cell row) k v found w = Missed row k v found w
 
+  abbrev pub MissedAfterBy : StepRow → ℕ → ℕ → View E S → CellState → View E S → Type 0
+  MissedAfterBy (at_counter row) tried k v found w = ⊥
+  MissedAfterBy (at_cell row) tried k v found w = MissedAfter row tried k v found w
+
 module _ {C S E : Type 0} {g : Ghosts C S E} where
   -- the step was made at the cell of the number k, which had this payload, as the first and only
   -- try
@@ -103,6 +130,11 @@ module _ {C S E : Type 0} {g : Ghosts C S E} where
   abbrev pub HasMissed : QueueStep → ℕ → CellState → Pass C S E g → Pass C S E g → Type 0
   HasMissed s k found p p' =
       MissedBy g.object g.primitive (row_of s) k (pass_view p) found (pass_view p')
+
+  -- the same by one exchange, or by a second after one that found another payload
+  abbrev pub HasMissedAfter : QueueStep → ℕ → CellState → Pass C S E g → Pass C S E g → Type 0
+  HasMissedAfter s k found p p' =
+      MissedAfterBy g.object g.primitive (row_of s) 1 k (pass_view p) found (pass_view p')
 
   -- the same of an exchange that wanted this payload there, with the one that was found
   abbrev pub HasMissedCell : QueueStep → ℕ → ℕ → CellWord → Pass C S E g → Pass C S E g → Type 0

@@ -1,6 +1,6 @@
 -- A suspend is its steps: a number is drawn, its cell is looked for, and an exchange there is made, perhaps after some
 -- that missed.
-use Rattle.std.proofs.Common.{◌≡◌, ◌≢◌, ◌⊎◌, ℕ, suc, ◌+◌, ◌/◌, ◌<◌, ◌≤◌, true, false, List, [], ◌∷◌, ◌++◌, length, Option, Some, None, sym, refl, ap, ◌∙◌, subst, ⊎_elim, inl, inr, append_assoc, length-append, arith}
+use Rattle.std.proofs.Common.{◌≡◌, ◌≢◌, ◌⊎◌, ℕ, suc, ◌+◌, ◌<◌, ◌≤◌, false, List, [], ◌∷◌, ◌++◌, length, Option, Some, None, sym, refl, ap, ◌∙◌, subst, ⊎_elim, inl, inr, append_assoc, length-append, arith}
 use Rattle.cqs_core.specs.declared.cells.CoreState.{CoreState}
 use Rattle.cqs_core.specs.declared.cells.CoreState.TheVariants as state
 use Rattle.cqs_core.specs.QueueCells.{rank}
@@ -31,7 +31,8 @@ use Rattle.cqs_rule.specs.declared.queue.Queue.{Queue}
 use Rattle.cqs_rule.specs.Claims.{CanExtend}
 use Rattle.cqs_rule.specs.Passes.{pass_view}
 use Rattle.cqs_rule.specs.Counting.{counted_after}
-use Rattle.cqs_cell.specs.Transitions.{facts_since, Made, MadeBy, Missed, MissedBy}
+use Rattle.cqs_cell.specs.Transitions.{facts_since, MadeBy, Missed, MissedBy}
+use Rattle.cqs_cell.proofs.Worked.{Worked, WorkedBy, worked-by}
 use Rattle.cqs_find.specs.Finds.{facts_searched, IsSearch, Searched}
 use Rattle.cqs_find.proofs.Numbers.{homes-grow}
 use Rattle.cqs_suspend.specs.Suspends.{facts_drawn, cell_found, told_by, draw_entries, end_entries, Ended, EndedBy}
@@ -109,9 +110,9 @@ module _ {C E S : Type 0} (object : Object E) (primitive : C → Primitive E S) 
       by (at_cell row) m =
           way-missed row tries k state v u w way (subst (λ z. Missed object primitive row z u state w) is m)
 
-  -- the exchange that was made
+  -- the step that was made
   ended : (s : QueueStep) (row : CellRow) (tries more k payload : ℕ) (v u w : View E S) → OnWay tries k v u
-      → Made object primitive s row more k payload u w
+      → Worked object primitive s row more k payload u w
       → Ended object primitive drawing s row (tries + more) k payload v w
   ended s row tries more k payload v u w way m =
       let f : Facts = facts_drawn object.gains k v.facts in
@@ -151,16 +152,48 @@ module _ {C E S : Type 0} (object : Object E) (primitive : C → Primitive E S) 
             }))));
       }
 
-  pub ends-by : (s : QueueStep) (tries more k j payload : ℕ) (v u w : View E S) → OnWay tries k v u → j ≡ k
-      → MadeBy object primitive s (row_of s) more j payload u w
+  pub ends-with : (s : QueueStep) (tries more k j payload : ℕ) (v u w : View E S) → OnWay tries k v u → j ≡ k
+      → WorkedBy object primitive s (row_of s) more j payload u w
       → EndedBy object primitive drawing s (row_of s) (tries + more) k payload v w
-  ends-by s tries more k j payload v u w way is m = by (row_of s) m
+  ends-with s tries more k j payload v u w way is m = by (row_of s) m
     where
-      by : (row : StepRow) → MadeBy object primitive s row more j payload u w
+      by : (row : StepRow) → WorkedBy object primitive s row more j payload u w
           → EndedBy object primitive drawing s row (tries + more) k payload v w
       by (at_counter row) m = absurd m
       by (at_cell row) m =
-          ended s row tries more k payload v u w way (subst (λ z. Made object primitive s row more z payload u w) is m)
+          ended s row tries more k payload v u w way
+          (subst (λ z. Worked object primitive s row more z payload u w) is m)
+
+  -- the same of an exchange
+  pub ends-by : (s : QueueStep) (tries more k j payload : ℕ) (v u w : View E S) → OnWay tries k v u → j ≡ k
+      → MadeBy object primitive s (row_of s) more j payload u w
+      → EndedBy object primitive drawing s (row_of s) (tries + more) k payload v w
+  ends-by s tries more k j payload v u w way is m =
+      ends-with s tries more k j payload v u w way is (worked-by object primitive s more j payload u w m)
+
+  -- the same with more tries allowed
+  pub ends-more : (s : QueueStep) (tries more k payload : ℕ) (v w : View E S) → tries ≤ more
+      → EndedBy object primitive drawing s (row_of s) tries k payload v w
+      → EndedBy object primitive drawing s (row_of s) more k payload v w
+  ends-more s tries more k payload v w low e = by (row_of s) e
+    where
+      by : (row : StepRow) → EndedBy object primitive drawing s row tries k payload v w
+          → EndedBy object primitive drawing s row more k payload v w
+      by (at_counter row) e = e
+      by (at_cell row) e = record {
+        called = e.called;
+        word = e.word;
+        cell = e.cell;
+        was = e.was;
+        found = e.found;
+        heads = e.heads;
+        few = let few = e.few in omega arith;
+        spares = e.spares;
+        search = e.search;
+        counted_heads = e.counted_heads;
+        few_counted = e.few_counted;
+        facts_are = e.facts_are;
+      }
 
   -- the same told of another view and another number, which are the same
   pub ends-at : (s : QueueStep) (tries k j payload : ℕ) (v w x : View E S) → j ≡ k → x ≡ w

@@ -1,1 +1,2 @@
 pub mod Suspends
+pub mod SyncSuspends

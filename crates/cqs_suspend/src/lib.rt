@@ -6,12 +6,16 @@
 //!                                                Value -> Taken:  Took, since its resume was first
 //! ```
 //!
-//! A pass comes from the door (`suspend`), or it is idle where its client has no door (`enter`).
+//! A pass comes from the door (`suspend`), or it is idle where its client has no door (`enter`). In
+//! a synchronous queue (`suspend_sync`) it may also find the cell broken: Broke, since its resume
+//! has taken the value back.
 #![tactic(auto)]
 
 mod entering;
 mod placing;
 mod suspending;
+mod sync_suspending;
 
 pub use entering::enter;
 pub use suspending::{Suspended, suspend};
+pub use sync_suspending::{SyncSuspended, suspend_sync};

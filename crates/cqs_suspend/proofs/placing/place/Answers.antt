@@ -1,4 +1,4 @@
-use Rattle.std.proofs.Common.{◌≡◌, ap, ◌∙◌, inl}
+use Rattle.std.proofs.Common.{ap, ◌∙◌, inl}
 use Rattle.cqs_rule.specs.Passes.{pass_view}
 use Rattle.cqs_find.proofs.Numbers.{number-out}
 use Rattle.cqs_suspend.proofs.placing.place.Goals as goal

@@ -1,35 +1,31 @@
 -- One number of a resumption where waits leave at once: what its load of a hole is, and that it finds one.
-use Rattle.std.proofs.Common.{true, ◌≡◌, ℕ, ◌<◌, ◌≤◌, List, [], Option, Some, sym, refl, ap, ◌∙◌, subst, ⊎_elim, arith}
+use Rattle.std.proofs.Common.{true, ◌≡◌, ℕ, ◌<◌, ◌≤◌, List, [], sym, refl, ap, ◌∙◌, subst, ⊎_elim, arith}
 use Rattle.cqs_core.specs.declared.cells.CoreState.{CoreState}
 use Rattle.cqs_core.specs.declared.cells.CoreState.TheVariants as state
 use Rattle.cqs_core.specs.declared.doings.Doing.TheVariants as doing
 use Rattle.cqs_core.specs.QueueCells.{rank}
 use Rattle.cqs_core.specs.QueueSound.{IsUnended}
-use Rattle.cqs_core.specs.QueueSteps.{QueueStep, row_of, CellRow, StepRow, at_cell, payload_told, ends_missed}
+use Rattle.cqs_core.specs.QueueSteps.{row_of, ends_missed}
 use Rattle.cqs_words.specs.declared.cell.CellState.{CellState}
 use Rattle.cqs_words.specs.declared.cell.CellState.TheVariants as shown
 use Rattle.cqs_words.specs.declared.cell.CellWord.{CellWord}
 use Rattle.cqs_rule_laws.specs.declared.config.CancelMode.TheVariants.{Simple}
 use Rattle.cqs_rule_laws.specs.Manner.{asks, at_once, IsAtOnce, Leaving, mode_for, passes_on}
-use Rattle.cqs_rule_laws.specs.declared.view.Facts.{Facts}
 use Rattle.cqs_rule_laws.specs.declared.view.Glimpse.{Glimpse}
 use Rattle.cqs_rule_laws.specs.declared.view.Opening.{Opening}
 use Rattle.cqs_rule_laws.specs.declared.view.View.{View}
-use Rattle.cqs_rule_laws.specs.Exchanges.{FoundCell, HasCell, SinceLast, IsFoundSince}
-use Rattle.cqs_rule_laws.specs.Facts.{facts_worked, facts_after}
+use Rattle.cqs_rule_laws.specs.Exchanges.{HasCell, SinceLast, IsFoundSince}
 use Rattle.cqs_rule_laws.specs.Hidden.{Gains}
-use Rattle.cqs_rule_laws.specs.Loads.{misses, event_of, facts_looked, look_entries, told_at}
+use Rattle.cqs_rule_laws.specs.Loads.{misses}
 use Rattle.cqs_rule_laws.specs.Object.{Object, Primitive}
 use Rattle.cqs_rule_laws.specs.Ruled.{shown_state}
-use Rattle.cqs_rule_laws.specs.Saw.{Saw, WasFound}
+use Rattle.cqs_rule_laws.specs.Saw.{WasFound}
 use Rattle.cqs_rule_laws.proofs.CellSteps.{shown-injective}
-use Rattle.cqs_rule_laws.specs.Kinds.{change_by}
-use Rattle.cqs_rule.specs.Counting.{counted_after}
-use Rattle.cqs_cell.specs.Looks.{LooksAt, settles_event}
+use Rattle.cqs_cell.specs.Looks.{LooksAt}
 use Rattle.cqs_resume.specs.AtOnce.{IsPlain, ShowsPlain}
-use Rattle.cqs_rule_laws.specs.Settling.{duties_then, settles_row}
-use Rattle.cqs_resume.specs.Meets.{cell_of}
-use Rattle.cqs_resume.proofs.OneNumber.{Tried, Worked, WorkedBy, IsEndBy, idles}
+use Rattle.cqs_rule_laws.specs.Settling.{duties_then}
+use Rattle.cqs_cell.proofs.Worked.{worked-looked}
+use Rattle.cqs_resume.proofs.OneNumber.{Tried, WorkedBy, IsEndBy, idles, worked-now}
 
 -- a hole ends the resumption
 pub end-missed : (gains : Gains) (k : ℕ) → IsEndBy gains (row_of ends_missed) state.Cancelled doing.Idle [] k
@@ -100,42 +96,9 @@ module _ {C E S : Type 0} (object : Object E) (primitive : C → Primitive E S) 
       (λ e. cancelled (sym l.shows.state ∙ e))
 
   -- the load of a hole is the step that ends there
-  worked-at : (row : CellRow) (k : ℕ) (cell : CellWord) (u w : View E S) → row_of ends_missed ≡ at_cell row
-      → (l : LooksAt object primitive misses k u cell w) → l.looked.glimpse.state ≡ row.finds
-      → event_of misses row.finds ≡ Some ends_missed
-      → Worked object primitive ends_missed row k u w
-  worked-at row k cell u w is l finds shows =
-      let g : Glimpse = l.looked.glimpse in
-      let event : event_of misses g.state ≡ Some ends_missed = ap (event_of misses) finds ∙ shows in
-      let told = payload_told row.gain g.payload u.facts.has.payload in
-      let here : g ≡ cell_of k row.finds g.payload = λ i. cell_of (l.looked.number i) (finds i) g.payload in
-      let heads = l.looked.heads in
-      let facts : counted_after (settles_event (event_of misses g.state)) heads
-      (facts_looked object.gains (event_of misses g.state) l.word g u.facts)
-      ≡ counted_after (settles_row row) heads (facts_worked object.gains row k l.word told u.facts) =
-      ap (λ (z : Option QueueStep). counted_after (settles_event z) heads
-      (facts_looked object.gains z l.word g u.facts)) event
-      ∙ (ap (λ (z : StepRow). counted_after (change_by z).settles heads
-      (facts_after object.gains z g.number l.word (told_at z g.payload u.facts) u.facts)) is
-      ∙ ap (λ z. counted_after (settles_row row) heads (facts_worked object.gains row z l.word told u.facts))
-      l.looked.number) in
-      let entries : look_entries object primitive (event_of misses g.state) u.number g u.facts
-      ≡ object.entries ends_missed u.number k told =
-      ap (λ (z : Option QueueStep). look_entries object primitive z u.number g u.facts) event
-      ∙ (ap (λ (z : StepRow). object.entries ends_missed u.number g.number (told_at z g.payload u.facts)) is
-      ∙ ap (λ z. object.entries ends_missed u.number z told) l.looked.number) in
-      record {
-        word = l.word;
-        left = g.payload;
-        cell = subst (FoundCell l.word) here l.looked.cell;
-        counted = heads;
-        few_counted = l.looked.few_heads;
-        saw = subst (λ (z : Facts × List E). Saw object u z.0 z.1 w) (λ i. (facts i, entries i)) l.looked.saw;
-        was = subst (λ (z : Glimpse × List E). WasFound primitive (HasCell z.0) z.1 w)
-            (λ i. (here i, entries i)) l.looked.was;
-      }
-
   pub worked-missed : (k : ℕ) (cell : CellWord) (u w : View E S) → (l : LooksAt object primitive misses k u cell w)
       → cell.state ≡ shown.Cancelled → WorkedBy object primitive ends_missed k u w
   worked-missed k cell u w l is =
-      worked-at _ k cell u w refl l (shown-injective l.looked.glimpse.state state.Cancelled (l.shows.state ∙ is)) refl
+      worked-now object primitive ends_missed _ k _ u w
+      (worked-looked object primitive misses ends_missed _ k cell u w refl l
+      (shown-injective l.looked.glimpse.state state.Cancelled (l.shows.state ∙ is)) refl)

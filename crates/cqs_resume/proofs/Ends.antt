@@ -3,6 +3,7 @@
 use Rattle.std.proofs.Common.{◌≡◌, ℕ, ◌+◌, ◌≤◌, Bool, true, false, List, [], ◌∷◌, ◌++◌, length, Option, Some, sym, ap, ◌∙◌, subst, append_assoc, arith}
 use Rattle.std.proofs.lemmas.List.{append-nil}
 use Rattle.cqs_core.specs.declared.cells.CoreState.{CoreState}
+use Rattle.cqs_core.specs.declared.doings.Doing.{Doing}
 use Rattle.cqs_core.specs.declared.doings.Doing.TheVariants as doing
 use Rattle.cqs_core.specs.QueueSteps.{QueueStep}
 use Rattle.cqs_rule.specs.declared.queue.tokens.Under.{Under}
@@ -13,7 +14,7 @@ use Rattle.cqs_rule_laws.specs.declared.view.Sighting.{Sighting}
 use Rattle.cqs_rule_laws.specs.declared.view.Sighting.TheVariants.{Cell}
 use Rattle.cqs_rule_laws.specs.declared.view.View.{View}
 use Rattle.cqs_rule_laws.specs.Called.{Called}
-use Rattle.cqs_rule_laws.specs.Causes.{cell_of, CellWas}
+use Rattle.cqs_rule_laws.specs.Causes.{cell_of, CellWas, CellWasOnce}
 use Rattle.cqs_rule_laws.specs.Client.{IsQuiet}
 use Rattle.cqs_rule_laws.specs.Exchanges.{FoundCell, HasCell}
 use Rattle.cqs_rule_laws.specs.Object.{Object, Primitive}
@@ -22,11 +23,11 @@ use Rattle.cqs_rule_laws.proofs.Causes.{Onward}
 use Rattle.cqs_rule_laws.proofs.Prefixes.{called-prefix}
 use Rattle.cqs_resume.specs.declared.resumed.Resumed.{Resumed}
 use Rattle.cqs_resume.specs.Leaps.{leap_seen}
-use Rattle.cqs_resume.specs.Resumes.{Ended, Held, Stopped}
+use Rattle.cqs_resume.specs.Resumes.{CameTo, Ended, Held, Stopped}
 use Rattle.cqs_resume.specs.Rounds.{Round, IsOpenedWith, draw_entries, round_entries, over_entries, draw_seen, round_seen, all_seen, drawn_in, one_if, numbers}
 
 -- what the last round found is last of all that was found
-seen-last : (over : List Round) (last : Round)
+pub seen-last : (over : List Round) (last : Round)
     → (earlier : List Sighting) × (all_seen (over ++ last ∷ []) ≡ earlier ++ Cell last.number last.word ∷ [])
 seen-last [] last =
     let drew = draw_seen last.drawn last.number in
@@ -56,11 +57,11 @@ opened-few k (r ∷ over) opens =
     let none : one_if r.drawn ≡ 0 = ap one_if opens.1 in let later = drawn-few over in omega arith
 
 module _ {E : Type 0} (object : Object E) (quiet : IsQuiet object) where
-  draw-none : (p payload : ℕ) (drawn : Bool) (k : ℕ) → draw_entries object p payload drawn k ≡ []
+  pub draw-none : (p payload : ℕ) (drawn : Bool) (k : ℕ) → draw_entries object p payload drawn k ≡ []
   draw-none p payload true k = quiet.drawing p k payload
   draw-none p payload false k = λ i. []
 
-  over-none : (p payload : ℕ) (over : List Round) → over_entries object p payload over ≡ []
+  pub over-none : (p payload : ℕ) (over : List Round) → over_entries object p payload over ≡ []
   over-none p payload [] = λ i. []
   over-none p payload (r ∷ over) =
       λ i. (draw-none p payload r.drawn r.number i ++ quiet.passing p r.number payload i) ++ over-none p payload over i
@@ -72,6 +73,67 @@ module _ {E : Type 0} (object : Object E) (quiet : IsQuiet object) where
       ++ (draw-none p payload last.drawn last.number i ++ object.entries s p (is i) payload)
 
 module _ {C E S : Type 0} (object : Object E) (primitive : C → Primitive E S) (quiet : IsQuiet object) where
+  -- It came to the number k and made a step at its cell, which was found in this state before these entries. The pass
+  -- is at this then, and has passed over these numbers.
+  pub record CameAt (does : Doing) (at : CoreState) (k : ℕ) (own : List E) (over : List ℕ) (u w : View E S) : Type 0
+    where
+      pub called : Called object u own own w
+      pub onward : Onward u w
+      pub cell : CellWas primitive at k own w
+      pub once : CellWasOnce primitive at k u w
+      pub at_end : w.facts.found ≡ u.facts.found ++ (once.found.0 ++ Cell k once.word ∷ [])
+      pub doing_is : w.facts.doing ≡ does
+      pub has : w.facts.has ≡ u.facts.has
+      pub waits : w.facts.waits ≡ u.facts.waits
+      pub passed : w.facts.passed ≡ u.facts.passed ++ over
+
+  pub came-at : (does : Doing) (s : QueueStep) (at : CoreState) (most : ℕ) (ticket : Option ℕ) (payload k : ℕ)
+      (u w : View E S) → (e : CameTo object primitive does s at most ticket payload k u w)
+      → CameAt does at k (object.entries s u.number k payload) (numbers e.over) u w
+  came-at does s at most ticket payload k u w e =
+      let last = e.last in
+      let p = u.number in
+      let own = object.entries s p k payload in
+      let found : w.facts.found ≡ u.facts.found ++ all_seen (e.over ++ last ∷ []) =
+      ap (λ (f : Facts). f.found) e.facts_are in
+      let at_end = seen-last e.over last in
+      let called = subst (λ es. Called object u es own w) (entries-last object quiet p payload k s e.over last e.number)
+      e.called in
+      let cell = subst (λ j. FoundCell last.word (cell_of j at last.payload)) e.number e.found.cell in
+      let was = subst (λ j. WasFound primitive (HasCell (cell_of j at last.payload)) own w) e.number e.was in
+      let seen_at_end = found ∙ (ap (λ l. u.facts.found ++ l) at_end.1
+      ∙ ap (λ j. u.facts.found ++ (at_end.0 ++ Cell j last.word ∷ [])) e.number) in
+      record {
+        called = called;
+        onward = record {
+          seen = called-prefix object u w _ _ called;
+          found = (_, found);
+          opening = e.called.same.opening;
+        };
+        cell = record {
+          word = last.word;
+          payload = last.payload;
+          cell = cell;
+          found = (
+            u.facts.found ++ at_end.0,
+            seen_at_end ∙ sym (append_assoc u.facts.found at_end.0 (Cell k last.word ∷ [])),
+          );
+          was = was;
+        };
+        once = record {
+          word = last.word;
+          payload = last.payload;
+          cell = cell;
+          found = (at_end.0, [], seen_at_end);
+          was = record { before = was.before; seen = (own, was.seen); was = was.was };
+        };
+        at_end = seen_at_end;
+        doing_is = ap (λ (f : Facts). f.doing) e.facts_are;
+        has = ap (λ (f : Facts). f.has) e.facts_are;
+        waits = ap (λ (f : Facts). f.waits) e.facts_are;
+        passed = ap (λ (f : Facts). f.passed) e.facts_are;
+      }
+
   -- It ended at the cell of the number k, which was found in this state before these entries, and passed over these
   -- numbers.
   pub record EndedAt (at : CoreState) (k : ℕ) (own : List E) (over : List ℕ) (u w : View E S) : Type 0 where
@@ -87,37 +149,15 @@ module _ {C E S : Type 0} (object : Object E) (primitive : C → Primitive E S) 
       → (e : Ended object primitive s at most ticket payload k u w)
       → EndedAt at k (object.entries s u.number k payload) (numbers e.over) u w
   ended-at s at most ticket payload k u w e =
-      let last = e.last in
-      let p = u.number in
-      let own = object.entries s p k payload in
-      let found : w.facts.found ≡ u.facts.found ++ all_seen (e.over ++ last ∷ []) =
-      ap (λ (f : Facts). f.found) e.facts_are in
-      let at_end = seen-last e.over last in
-      let called = subst (λ es. Called object u es own w) (entries-last object quiet p payload k s e.over last e.number)
-      e.called in
+      let c = came-at doing.Idle s at most ticket payload k u w e in
       record {
-        called = called;
-        onward = record {
-          seen = called-prefix object u w _ _ called;
-          found = (_, found);
-          opening = e.called.same.opening;
-        };
-        cell = record {
-          word = last.word;
-          payload = last.payload;
-          cell = subst (λ j. FoundCell last.word (cell_of j at last.payload)) e.number e.found.cell;
-          found = (
-            u.facts.found ++ at_end.0,
-            found ∙ (ap (λ l. u.facts.found ++ l) at_end.1
-                ∙ (sym (append_assoc u.facts.found at_end.0 (Cell last.number last.word ∷ []))
-                ∙ ap (λ j. (u.facts.found ++ at_end.0) ++ Cell j last.word ∷ []) e.number)),
-          );
-          was = subst (λ j. WasFound primitive (HasCell (cell_of j at last.payload)) own w) e.number e.was;
-        };
-        idle = ap (λ (f : Facts). f.doing) e.facts_are;
-        has = ap (λ (f : Facts). f.has) e.facts_are;
-        waits = ap (λ (f : Facts). f.waits) e.facts_are;
-        passed = ap (λ (f : Facts). f.passed) e.facts_are;
+        called = c.called;
+        onward = c.onward;
+        cell = c.cell;
+        idle = c.doing_is;
+        has = c.has;
+        waits = c.waits;
+        passed = c.passed;
       }
 
   -- it was handed back, and passed over these numbers

@@ -26,7 +26,7 @@ use Rattle.cqs_resume.proofs.Runs.{HasEnded, IsNext, never-falls, opened_by, ove
 
 module _ {C E S : Type 0} (object : Object E) (primitive : C → Primitive E S) where
   -- the ticket of the number was open
-  held-open : (most payload k : ℕ) (under : token.Under) (v w : View E S) → 0 < most
+  pub held-open : (most payload k : ℕ) (under : token.Under) (v w : View E S) → 0 < most
       → HeldBack object primitive payload k v under w → Held object primitive most payload v (Under under) w
   held-open most payload k under v w some h = record {
     under = under;
@@ -57,7 +57,7 @@ module _ {C E S : Type 0} (object : Object E) (primitive : C → Primitive E S) 
   }
 
   -- the number was drawn, perhaps after a jump
-  held-drawn : (most payload k : ℕ) (under : token.Under) (leap : Option Leap) (v y x w : View E S) → 0 < most
+  pub held-drawn : (most payload k : ℕ) (under : token.Under) (leap : Option Leap) (v y x w : View E S) → 0 < most
       → v.facts.has.payload ≡ payload → Leapt object primitive leap v y → IsBehind k y.facts
       → Drew object reaches y k x → HeldBack object primitive payload k x under w
       → Held object primitive most payload v (Under under) w
@@ -114,7 +114,7 @@ module _ {C E S : Type 0} (object : Object E) (primitive : C → Primitive E S) 
       }
 
   -- a number was passed over before
-  held-then : (drawn : Bool) (most payload j : ℕ) (result : Resumed) (v u w : View E S)
+  pub held-then : (drawn : Bool) (most payload j : ℕ) (result : Resumed) (v u w : View E S)
       → Went object primitive drawn passes_over state.Cancelled doing.Owes (j ∷ []) payload j v u
       → IsNext drawn j v.facts → Held object primitive most payload u result w
       → Held object primitive (one_if drawn + most) payload v result w

@@ -27,7 +27,7 @@ module _ {C E S : Type 0} (primitive : C → Primitive E S) where
     was = subst (λ z. WasShown primitive z fact f.before) (sym opening) f.was;
   }
 
-  so-on : (fact : Hidden → List ℕ → Type 0) (more : List E) (u w : View E S) → WasSo primitive fact u
+  pub so-on : (fact : Hidden → List ℕ → Type 0) (more : List E) (u w : View E S) → WasSo primitive fact u
       → w.seen ≡ u.seen ++ more → w.opening ≡ u.opening → WasSo primitive fact w
   so-on fact more u w f seen opening = record {
     before = f.before;

@@ -9,7 +9,7 @@ use Rattle.cqs_core.specs.QueueCells.{rank, IsBare}
 use Rattle.cqs_core.specs.QueueSound.{IsUnended}
 use Rattle.cqs_core.specs.QueueStages as stage
 use Rattle.cqs_core.specs.QueueStages.{MayFind}
-use Rattle.cqs_core.specs.QueueSteps.{QueueStep, row_of, CellRow, StepRow, at_counter, at_cell, nothing, payload_told, serves, leaves, delegates, passes_over, ends_refused}
+use Rattle.cqs_core.specs.QueueSteps.{QueueStep, row_of, CellRow, StepRow, at_counter, at_cell, nothing, payload_told, serves, leaves, delegates, passes_over, ends_refused, in_sync, leaves_watched}
 use Rattle.cqs_words.specs.declared.cell.CellState.{CellState}
 use Rattle.cqs_words.specs.declared.cell.CellState.TheVariants as shown
 use Rattle.cqs_words.specs.declared.cell.CellWord.{CellWord}
@@ -22,9 +22,9 @@ use Rattle.cqs_rule_laws.specs.declared.view.Spare.{Spare}
 use Rattle.cqs_rule_laws.specs.declared.view.View.{View}
 use Rattle.cqs_rule.specs.Callbacks.{EndedRefused}
 use Rattle.cqs_rule_laws.specs.Exchanges.{FoundCell, HasCell, SinceLast, IsFoundSince}
-use Rattle.cqs_rule_laws.specs.Facts.{facts_worked, facts_missed, facts_after}
+use Rattle.cqs_rule_laws.specs.Facts.{facts_worked, facts_missed, looked_then}
 use Rattle.cqs_rule_laws.specs.Hidden.{Gains}
-use Rattle.cqs_rule_laws.specs.Loads.{meets, event_of, facts_looked, look_entries, told_at}
+use Rattle.cqs_rule_laws.specs.Loads.{meets}
 use Rattle.cqs_rule_laws.specs.Object.{Object, Primitive}
 use Rattle.cqs_rule_laws.specs.PassedOver.{PassedOver}
 use Rattle.cqs_rule_laws.specs.Placed.{KnowsPlace}
@@ -35,13 +35,14 @@ use Rattle.cqs_rule_laws.proofs.Calls.{saw-then}
 use Rattle.cqs_rule_laws.proofs.CellSteps.{shown-injective}
 use Rattle.cqs_rule.proofs.Places.{knows-saw}
 use Rattle.cqs_rule.specs.Counting.{counted_after}
-use Rattle.cqs_cell.specs.Looks.{LooksAt, settles_event}
-use Rattle.cqs_cell.specs.Transitions.{facts_since, Made, MadeBy, Missed}
+use Rattle.cqs_cell.specs.Looks.{LooksAt}
+use Rattle.cqs_cell.specs.Transitions.{facts_since, MadeBy, Missed}
+use Rattle.cqs_cell.proofs.Worked as cells
 use Rattle.cqs_find.specs.Finds.{facts_searched, IsSearch, Searched}
 use Rattle.cqs_find.proofs.Searches.{saw-left}
 use Rattle.cqs_rule_laws.specs.Settling.{duties_then, settles_row}
 use Rattle.cqs_rule_laws.specs.Kinds.{change_by}
-use Rattle.cqs_resume.specs.Counting.{duties_by, settles_at}
+use Rattle.cqs_resume.specs.Counting.{duties_by, looked_by, settles_at}
 use Rattle.cqs_resume.specs.Meets.{facts_met, cell_of, Met}
 
 -- a pass at these facts that found these words and heads besides, and another glimpse, and has these slots spare
@@ -57,6 +58,7 @@ pub record IsEnd (gains : Gains) (row : CellRow) (state : CoreState) (at : Doing
       ≡ record f {
         doing = at;
         last = None;
+        looked = looked_then row.works_at row.goes_to f.looked;
         passed = f.passed ++ over;
         duties = duties_then (settles_row row) k f.duties;
         found = f.found ++ Cell k n ∷ [];
@@ -100,6 +102,20 @@ end-refused gains k = record {
   finds = refl;
   told = refl;
   facts = λ n payload f. idles f (duties_then true k f.duties) k n;
+}
+
+pub end-watched : (gains : Gains) (k : ℕ)
+    → IsEndBy gains (row_of (in_sync leaves_watched)) state.Empty (doing.Watching k) [] k
+end-watched gains k = record {
+  finds = refl;
+  told = refl;
+  facts = λ n payload f. λ i. record f {
+    doing = doing.Watching k;
+    last = None;
+    looked = 0;
+    passed = sym (append-nil f.passed) i;
+    found = f.found ++ Cell k n ∷ [];
+  };
 }
 
 pub end-over : (gains : Gains) (k : ℕ) → IsEndBy gains (row_of passes_over) state.Cancelled doing.Owes (k ∷ []) k
@@ -209,12 +225,17 @@ module _ {C E S : Type 0} (object : Object E) (primitive : C → Primitive E S) 
 
   -- The last of the exchanges found the cell of the number k in this state; n is that number, as it was looked for.
   pub record Tried (k n : ℕ) (state : CellState) (v u : View E S) : Type 0 where
+    pub word : ℕ
     pub glimpse : Glimpse
+    pub cell : FoundCell word glimpse
+    pub was : WasFound primitive (HasCell glimpse) [] u
     pub last : u.facts.last ≡ Some glimpse
     pub number : glimpse.number ≡ k
     pub state_is : shown_state glimpse.state ≡ state
     pub may : IsUnended glimpse.state
     pub way : OnWay (min (rank glimpse.state + 1) 4) n v u
+    pub earlier : List Sighting
+    pub found_is : way.found ≡ earlier ++ Cell glimpse.number word ∷ []
 
   -- an exchange that missed leaves the pass at what it was at
   pub record Stays (u w : View E S) : Type 0 where
@@ -240,14 +261,20 @@ module _ {C E S : Type 0} (object : Object E) (primitive : C → Primitive E S) 
   -- the first exchange missed
   pub tried-first : (row : CellRow) (k n : ℕ) (state : CellState) (v u w : View E S) → row.works_at ≡ stage.ticket
       → Searched object n v u → Missed object primitive row k u state w → Tried k n state v w
+  unfolding way-more way-missed way-searched
   tried-first row k n state v u w at s m = record {
+    word = m.word;
     glimpse = m.glimpse;
+    cell = m.cell;
+    was = m.was;
     last = ap (λ (f : Facts). f.last) m.saw.facts_are;
     number = m.number;
     state_is = m.state_is;
     may = subst (λ z. MayFind u.opening.sync z m.glimpse.state) at m.may;
     way = way-more 1 (min (rank m.glimpse.state + 1) 4) n v w (omega arith)
         (way-missed row 0 n k state v u w (way-searched n v u s) m);
+    earlier = [];
+    found_is = refl;
   }
 
   -- What an exchange finds that wants the state which was found last, and misses: the cell has gone on.
@@ -266,16 +293,22 @@ module _ {C E S : Type 0} (object : Object E) (primitive : C → Primitive E S) 
   pub tried-next : (row : CellRow) (k n : ℕ) (state next : CellState) (v u w : View E S) → row.works_at ≡ stage.ticket
       → IsBare row.finds → rank row.finds ≤ 2 → (t : Tried k n state v u) → t.glimpse.state ≡ row.finds
       → Missed object primitive row k u next w → Tried k n next v w
+  unfolding way-more way-missed
   tried-next row k n state next v u w at bare low t finds m =
       let more = gone-on row k n state next v u w t m finds bare in
       let is : rank t.glimpse.state ≡ rank row.finds = ap rank finds in record {
+        word = m.word;
         glimpse = m.glimpse;
+        cell = m.cell;
+        was = m.was;
         last = ap (λ (f : Facts). f.last) m.saw.facts_are;
         number = m.number;
         state_is = m.state_is;
         may = subst (λ z. MayFind u.opening.sync z m.glimpse.state) at m.may;
         way = way-more (suc (min (rank t.glimpse.state + 1) 4)) (min (rank m.glimpse.state + 1) 4) n v w (omega arith)
             (way-missed row (min (rank t.glimpse.state + 1) 4) n k next v u w t.way m);
+        earlier = t.way.found;
+        found_is = refl;
       }
 
   pub fewer-turns : (row : CellRow) (k n : ℕ) (state next : CellState) (v u w : View E S) → IsBare row.finds
@@ -310,11 +343,10 @@ module _ {C E S : Type 0} (object : Object E) (primitive : C → Primitive E S) 
   abbrev pub WorkedBy : QueueStep → ℕ → View E S → View E S → Type 0
   WorkedBy s k u w = WorkedAs s (row_of s) k u w
 
-  -- an exchange
-  pub worked-made : (s : QueueStep) (row : CellRow) (k left : ℕ) (u w : View E S)
-      → Made object primitive s row 0 k left u w
-      → Worked s row k u w
-  worked-made s row k left u w m =
+  -- by an exchange that was made at once, or by a load
+  pub worked-now : (s : QueueStep) (row : CellRow) (k left : ℕ) (u w : View E S)
+      → cells.Worked object primitive s row 0 k left u w → Worked s row k u w
+  worked-now s row k left u w m =
       let told = payload_told row.gain left u.facts.has.payload in
       let none : m.found ≡ [] = no-more m.found m.few in
       let is : facts_worked object.gains row k m.word told m.before
@@ -340,59 +372,24 @@ module _ {C E S : Type 0} (object : Object E) (primitive : C → Primitive E S) 
 
   pub worked-by : (s : QueueStep) (k left : ℕ) (u w : View E S) → MadeBy object primitive s (row_of s) 0 k left u w
       → WorkedBy s k u w
-  worked-by s k left u w m = by (row_of s) m
+  worked-by s k left u w m = by (row_of s) (cells.worked-by object primitive s 0 k left u w m)
     where
-      by : (row : StepRow) → MadeBy object primitive s row 0 k left u w → WorkedAs s row k u w
+      by : (row : StepRow) → cells.WorkedBy object primitive s row 0 k left u w → WorkedAs s row k u w
       by (at_counter row) m = absurd m
-      by (at_cell row) m = worked-made s row k left u w m
+      by (at_cell row) m = worked-now s row k left u w m
 
   -- a load of a cell that is settled
-  worked-looked : (s : QueueStep) (row : CellRow) (k : ℕ) (cell : CellWord) (u w : View E S) → row_of s ≡ at_cell row
-      → (l : LooksAt object primitive meets k u cell w) → l.looked.glimpse.state ≡ row.finds
-      → event_of meets row.finds ≡ Some s
-      → Worked s row k u w
-  worked-looked s row k cell u w is l finds shows =
-      let g : Glimpse = l.looked.glimpse in
-      let event : event_of meets g.state ≡ Some s = ap (event_of meets) finds ∙ shows in
-      let told = payload_told row.gain g.payload u.facts.has.payload in
-      let here : g ≡ cell_of k row.finds g.payload = λ i. cell_of (l.looked.number i) (finds i) g.payload in
-      let heads = l.looked.heads in
-      let facts : counted_after (settles_event (event_of meets g.state)) heads
-      (facts_looked object.gains (event_of meets g.state) l.word g u.facts)
-      ≡ counted_after (settles_row row) heads (facts_worked object.gains row k l.word told u.facts) =
-      ap (λ (z : Option QueueStep). counted_after (settles_event z) heads
-      (facts_looked object.gains z l.word g u.facts)) event
-      ∙ (ap (λ (z : StepRow). counted_after (change_by z).settles heads
-      (facts_after object.gains z g.number l.word (told_at z g.payload u.facts) u.facts)) is
-      ∙ ap (λ z. counted_after (settles_row row) heads (facts_worked object.gains row z l.word told u.facts))
-      l.looked.number) in
-      let entries : look_entries object primitive (event_of meets g.state) u.number g u.facts
-      ≡ object.entries s u.number k told =
-      ap (λ (z : Option QueueStep). look_entries object primitive z u.number g u.facts) event
-      ∙ (ap (λ (z : StepRow). object.entries s u.number g.number (told_at z g.payload u.facts)) is
-      ∙ ap (λ z. object.entries s u.number z told) l.looked.number) in
-      record {
-        word = l.word;
-        left = g.payload;
-        cell = subst (FoundCell l.word) here l.looked.cell;
-        counted = heads;
-        few_counted = l.looked.few_heads;
-        saw = subst (λ (z : Facts × List E). Saw object u z.0 z.1 w) (λ i. (facts i, entries i)) l.looked.saw;
-        was = subst (λ (z : Glimpse × List E). WasFound primitive (HasCell z.0) z.1 w)
-            (λ i. (here i, entries i)) l.looked.was;
-      }
-
   pub worked-over : (k : ℕ) (cell : CellWord) (u w : View E S) → (l : LooksAt object primitive meets k u cell w)
       → cell.state ≡ shown.Cancelled → WorkedBy passes_over k u w
   worked-over k cell u w l is =
-      worked-looked passes_over _ k cell u w refl l
-      (shown-injective l.looked.glimpse.state state.Cancelled (l.shows.state ∙ is)) refl
+      worked-now passes_over _ k _ u w (cells.worked-looked object primitive meets passes_over _ k cell u w refl l
+      (shown-injective l.looked.glimpse.state state.Cancelled (l.shows.state ∙ is)) refl)
 
   pub worked-refused : (k : ℕ) (cell : CellWord) (u w : View E S) → (l : LooksAt object primitive meets k u cell w)
       → cell.state ≡ shown.Refused → WorkedBy ends_refused k u w
   worked-refused k cell u w l is =
-      worked-looked ends_refused _ k cell u w refl l
-      (shown-injective l.looked.glimpse.state state.Refused (l.shows.state ∙ is)) refl
+      worked-now ends_refused _ k _ u w (cells.worked-looked object primitive meets ends_refused _ k cell u w refl l
+      (shown-injective l.looked.glimpse.state state.Refused (l.shows.state ∙ is)) refl)
 
   -- a look at a cell that was found settled finds it settled
   pub looks-settled : (k n : ℕ) (state : CellState) (cell : CellWord) (v u w : View E S) → Tried k n state v u
@@ -436,11 +433,13 @@ module _ {C E S : Type 0} (object : Object E) (primitive : C → Primitive E S) 
       ∙ ((λ i. record (u_is i) {
         doing = at;
         last = None;
+        looked = looked_then row.works_at row.goes_to (u_is i).looked;
         passed = (u_is i).passed ++ over;
         duties = duties_then (settles_row row) k (u_is i).duties;
         found = (u_is i).found ++ here;
       })
       ∙ (λ i. record (facts_met s k at over (way.found ++ here) way.heads way.spares f) {
+        looked = looked_by (sym is i) f.looked;
         duties = duties_by (sym is i) k f.duties;
         found = append_assoc f.found way.found here i;
       })))

@@ -26,11 +26,11 @@ use Rattle.cqs_resume.specs.declared.resumed.Resumed.{Resumed}
 use Rattle.cqs_resume.specs.declared.resumed.Resumed.TheVariants.{Served, Left, Refused, Under}
 use Rattle.cqs_resume.specs.Rounds.{Round, cell_in, IsFoundIn, IsOpenedWith, AreDrawn, draw_seen, numbers, one_if, round_seen, all_seen, all_heads, facts_after_rounds, round_entries, over_entries}
 use Rattle.cqs_rule.specs.Counting.{counted_after}
-use Rattle.cqs_resume.specs.Counting.{duties_after, settles_at}
+use Rattle.cqs_resume.specs.Counting.{duties_after, looked_after, settles_at}
 use Rattle.cqs_resume.proofs.Leaping.{Firstly, firstly, leapt-on, was-so}
 use Rattle.cqs_resume.specs.Meets.{facts_met, cell_of, Met, Meets}
 use Rattle.cqs_resume.specs.Leaps.{IsLeapt, Leap, leap_seen, Leapt}
-use Rattle.cqs_resume.specs.Resumes.{IsOver, Ended, Stopped, Resumes, IsFurther}
+use Rattle.cqs_resume.specs.Resumes.{IsOver, CameTo, Ended, Stopped, Resumes, IsFurther}
 
 -- how a call opens with this number: it drew it, or it went on from its open ticket
 abbrev pub opened_by : Bool → ℕ → Option ℕ
@@ -43,6 +43,7 @@ facts_round s k at over r f = record f {
   doing = at;
   last = None;
   reached = if r.drawn then r.number else f.reached;
+  looked = looked_after s f.looked;
   passed = f.passed ++ over;
   duties = duties_after s k f.duties;
   spare_slots = r.spares;
@@ -58,7 +59,7 @@ facts-one s k at over r f = λ i. record (facts_round s k at over r f) {
   found = f.found ++ sym (append-nil (round_seen r)) i;
 }
 
-facts-then : (s : QueueStep) (k : ℕ) (at : Doing) (ns : List ℕ) (rest : List Round) (r : Round) (j : ℕ) (f : Facts)
+pub facts-then : (s : QueueStep) (k : ℕ) (at : Doing) (ns : List ℕ) (rest : List Round) (r : Round) (j : ℕ) (f : Facts)
     → r.number ≡ j
     → facts_after_rounds s k at ns rest (facts_round passes_over j doing.Owes (j ∷ []) r f)
     ≡ facts_after_rounds s k at (r.number ∷ ns) (r ∷ rest) f
@@ -228,11 +229,11 @@ module _ {C E S : Type 0} (object : Object E) (primitive : C → Primitive E S) 
       ∙ ap (λ b. if b then t.round.number else v.facts.reached) t.is_drawn in
       omega arith
 
-  -- a round that ended the resumption, as the first of its call
-  pub ended-now : (drawn : Bool) (s : QueueStep) (state : CoreState) (most payload k : ℕ) (v w : View E S) → 0 < most
-      → IsNext drawn k v.facts → Went drawn s state doing.Idle [] payload k v w
-      → Ended object primitive s state most (opened_by drawn k) payload k v w
-  ended-now drawn s state most payload k v w some next t = record {
+  -- a round in which the call came to its last number, as the first
+  pub came-now : (drawn : Bool) (at : Doing) (s : QueueStep) (state : CoreState) (most payload k : ℕ) (v w : View E S)
+      → 0 < most → IsNext drawn k v.facts → Went drawn s state at [] payload k v w
+      → CameTo object primitive at s state most (opened_by drawn k) payload k v w
+  came-now drawn at s state most payload k v w some next t = record {
     over = [];
     last = t.round;
     number = t.number;
@@ -245,8 +246,8 @@ module _ {C E S : Type 0} (object : Object E) (primitive : C → Primitive E S) 
     called = t.called;
     counted = t.counted;
     few_counted = t.few_counted;
-    facts_are = t.facts_are ∙ ap (counted_after (settles_at s) t.counted) (facts-one s k doing.Idle [] t.round v.facts);
-    reached = never-falls drawn s state doing.Idle [] payload k v w t next;
+    facts_are = t.facts_are ∙ ap (counted_after (settles_at s) t.counted) (facts-one s k at [] t.round v.facts);
+    reached = never-falls drawn s state at [] payload k v w t next;
   }
     where
       opens : (b : Bool) → t.round.drawn ≡ b → IsOpenedWith (opened_by b k) (t.round ∷ [])
@@ -264,17 +265,18 @@ module _ {C E S : Type 0} (object : Object E) (primitive : C → Primitive E S) 
         was = was-so primitive (HasCell (cell_in state.Cancelled t.round)) _ more u w t.was seen opening;
       }
 
-  opens-with : (drawn : Bool) (r : Round) (rest : List Round) (k : ℕ) → r.number ≡ k → r.drawn ≡ drawn → AreDrawn rest
-      → IsOpenedWith (opened_by drawn k) (r ∷ rest)
+  pub opens-with : (drawn : Bool) (r : Round) (rest : List Round) (k : ℕ) → r.number ≡ k → r.drawn ≡ drawn
+      → AreDrawn rest → IsOpenedWith (opened_by drawn k) (r ∷ rest)
   opens-with true r rest k number is all = (is, all)
   opens-with false r rest k number is all = (number, is, all)
 
   -- a number was passed over, and the resumption went on from there
-  then-ended : (drawn : Bool) (s : QueueStep) (stood : CoreState) (most payload j k : ℕ) (v u w : View E S)
+  pub then-came : (drawn : Bool) (at : Doing) (s : QueueStep) (stood : CoreState) (most payload j k : ℕ)
+      (v u w : View E S)
       → Went drawn passes_over state.Cancelled doing.Owes (j ∷ []) payload j v u → IsNext drawn j v.facts
-      → Ended object primitive s stood most None payload k u w
-      → Ended object primitive s stood (one_if drawn + most) (opened_by drawn j) payload k v w
-  then-ended drawn s stood most payload j k v u w t next e =
+      → CameTo object primitive at s stood most None payload k u w
+      → CameTo object primitive at s stood (one_if drawn + most) (opened_by drawn j) payload k v w
+  then-came drawn at s stood most payload j k v u w t next e =
       let number : u.number ≡ v.number = t.called.same.number in
       let first : List E = round_entries object v.number payload passes_over t.round in
       let rest : List Round = e.over ++ e.last ∷ [] in
@@ -310,8 +312,8 @@ module _ {C E S : Type 0} (object : Object E) (primitive : C → Primitive E S) 
         counted = e.counted;
         few_counted = e.few_counted;
         facts_are = e.facts_are ∙ ap (counted_after (settles_at s) e.counted)
-            (ap (facts_after_rounds s k doing.Idle (numbers e.over) rest) t.facts_are
-            ∙ facts-then s k doing.Idle (numbers e.over) rest t.round j v.facts t.number);
+            (ap (facts_after_rounds s k at (numbers e.over) rest) t.facts_are
+            ∙ facts-then s k at (numbers e.over) rest t.round j v.facts t.number);
         reached =
             let first = never-falls drawn passes_over state.Cancelled doing.Owes (j ∷ []) payload j v u t next in
             let later = e.reached in
@@ -358,7 +360,7 @@ module _ {C E S : Type 0} (object : Object E) (primitive : C → Primitive E S) 
       let is = reached-then payload j v u t in
       let high : u.facts.reached < top = further (omega arith) in omega arith
 
-  then-stopped : (drawn : Bool) (most payload j : ℕ) (under : token.Under) (v u w : View E S)
+  pub then-stopped : (drawn : Bool) (most payload j : ℕ) (under : token.Under) (v u w : View E S)
       → Went drawn passes_over state.Cancelled doing.Owes (j ∷ []) payload j v u → IsNext drawn j v.facts
       → Stopped object primitive most None payload under u w
       → Stopped object primitive (one_if drawn + most) (opened_by drawn j) payload under v w
@@ -437,19 +439,20 @@ module _ {C E S : Type 0} (object : Object E) (primitive : C → Primitive E S) 
       → Resumes object primitive most (opened_by drawn k) payload v result w
   resumes-now drawn most payload k (Served n) v x w some next end went m =
       subst (λ z. Ended object primitive serves state.Waiter most (opened_by drawn k) payload z v w) (sym m.0)
-      (ended-now drawn serves state.Waiter most payload k v w some next (went serves state.Waiter m.1))
+      (came-now drawn doing.Idle serves state.Waiter most payload k v w some next (went serves state.Waiter m.1))
   resumes-now drawn most payload k (Left n) v x w some next end went m = ⊎_elim
       (λ (left : Met object primitive leaves state.Empty doing.Idle [] payload k x w). inl
       (subst (λ z. Ended object primitive leaves state.Empty most (opened_by drawn k) payload z v w) (sym m.0)
-      (ended-now drawn leaves state.Empty most payload k v w some next (went leaves state.Empty left))))
+      (came-now drawn doing.Idle leaves state.Empty most payload k v w some next (went leaves state.Empty left))))
       (λ (given : Met object primitive delegates state.Cancelling doing.Idle [] payload k x w). inr
       (subst (λ z. Ended object primitive delegates state.Cancelling most (opened_by drawn k) payload z v w) (sym m.0)
-      (ended-now drawn delegates state.Cancelling most payload k v w some next
+      (came-now drawn doing.Idle delegates state.Cancelling most payload k v w some next
       (went delegates state.Cancelling given))))
       m.1
   resumes-now drawn most payload k (Refused n) v x w some next end went m =
       subst (λ z. Ended object primitive ends_refused state.Refused most (opened_by drawn k) payload z v w) (sym m.0)
-      (ended-now drawn ends_refused state.Refused most payload k v w some next (went ends_refused state.Refused m.1))
+      (came-now drawn doing.Idle ends_refused state.Refused most payload k v w some next
+      (went ends_refused state.Refused m.1))
   resumes-now drawn most payload k (Under under) v x w some next end went m = absurd end
 
   -- and one that passed over its first number
@@ -458,15 +461,15 @@ module _ {C E S : Type 0} (object : Object E) (primitive : C → Primitive E S) 
       → Resumes object primitive most None payload u result w
       → Resumes object primitive (one_if drawn + most) (opened_by drawn j) payload v result w
   resumes-then drawn most payload j (Served k) v u w t next e =
-      then-ended drawn serves state.Waiter most payload j k v u w t next e
+      then-came drawn doing.Idle serves state.Waiter most payload j k v u w t next e
   resumes-then drawn most payload j (Left k) v u w t next e = ⊎_elim
       (λ (left : Ended object primitive leaves state.Empty most None payload k u w). inl
-      (then-ended drawn leaves state.Empty most payload j k v u w t next left))
+      (then-came drawn doing.Idle leaves state.Empty most payload j k v u w t next left))
       (λ (given : Ended object primitive delegates state.Cancelling most None payload k u w). inr
-      (then-ended drawn delegates state.Cancelling most payload j k v u w t next given))
+      (then-came drawn doing.Idle delegates state.Cancelling most payload j k v u w t next given))
       e
   resumes-then drawn most payload j (Refused k) v u w t next e =
-      then-ended drawn ends_refused state.Refused most payload j k v u w t next e
+      then-came drawn doing.Idle ends_refused state.Refused most payload j k v u w t next e
   resumes-then drawn most payload j (Under under) v u w t next e =
       then-stopped drawn most payload j under v u w t next e
 

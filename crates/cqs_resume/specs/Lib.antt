@@ -5,3 +5,6 @@ pub mod Meets
 pub mod Resumes
 pub mod Begins
 pub mod AtOnce
+pub mod Watching
+pub mod SyncMeets
+pub mod SyncResumes

@@ -22,7 +22,7 @@ use Rattle.cqs_rule.specs.Passes.{pass_view}
 use Rattle.cqs_rule_laws.specs.Saw.{Saw, WasFound}
 use Rattle.cqs_find.specs.Finds.{IsCrowded, IsSearch, Searched}
 use Rattle.cqs_rule.specs.Counting.{counted_after}
-use Rattle.cqs_resume.specs.Counting.{duties_after, settles_at}
+use Rattle.cqs_resume.specs.Counting.{duties_after, looked_after, settles_at}
 use Rattle.cqs_resume.specs.declared.resumed.Resumed.{Resumed}
 use Rattle.cqs_resume.specs.declared.resumed.Resumed.TheVariants.{Served, Left, Refused, Under}
 
@@ -34,6 +34,7 @@ facts_met s k at over found heads spares f = record f {
   spare_slots = spares;
   doing = at;
   last = None;
+  looked = looked_after s f.looked;
   passed = f.passed ++ over;
   duties = duties_after s k f.duties;
   heads = f.heads ++ heads;

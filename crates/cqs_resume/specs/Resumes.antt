@@ -2,6 +2,7 @@
 use Rattle.std.specs.Prelude.{◌≡◌, ◌⊎◌, ℕ, ◌/◌, ◌<◌, ◌≤◌, Bool, List, [], ◌∷◌, ◌++◌, length, Option, Some, None}
 use Rattle.cqs_core.specs.declared.cells.CoreState.{CoreState}
 use Rattle.cqs_core.specs.declared.cells.CoreState.TheVariants as state
+use Rattle.cqs_core.specs.declared.doings.Doing.{Doing}
 use Rattle.cqs_core.specs.declared.doings.Doing.TheVariants as doing
 use Rattle.cqs_core.specs.QueueSteps.{QueueStep, serves, leaves, delegates, passes_over, ends_refused}
 use Rattle.cqs_rule_laws.specs.declared.client.ClientWords.{Ghosts}
@@ -48,12 +49,13 @@ module _ {C E S : Type 0} (primitive : C → Primitive E S) where
   AreOver w (r ∷ rs) = IsOver w r × AreOver w rs
 
 module _ {C E S : Type 0} (object : Object E) (primitive : C → Primitive E S) where
-  -- The resume ended at the number k, by this step on its cell, which it found in this state. It
-  -- passed over the numbers before, fewer than `most` of which it drew. If the step settled the
-  -- cell, that is counted, and by that at most one head was found. The pass is idle, and holds and
-  -- waits for what it did before. The last number that it drew comes after those that it drew
-  -- earlier, or is the last of them.
-  pub record Ended (s : QueueStep) (state : CoreState) (most : ℕ) (ticket : Option ℕ)
+  -- The resume came to the number k and made this step on its cell, which it found in this state.
+  -- It passed over the numbers before, fewer than `most` of which it drew. If the step settled the
+  -- cell, that is counted, and by that at most one head was found. The pass is at this then, and
+  -- holds and waits for what it did before. The last number that it drew comes after those that it
+  -- drew earlier, or is the last of them.
+  pub record CameTo (at : Doing) (s : QueueStep) (state : CoreState) (most : ℕ)
+      (ticket : Option ℕ)
       (payload k : ℕ)
       (v w : View E S) : Type 0 where
     pub over : List Round
@@ -73,8 +75,12 @@ module _ {C E S : Type 0} (object : Object E) (primitive : C → Primitive E S) 
     pub counted : List (ℕ × ℕ)
     pub few_counted : length counted ≤ 1
     pub facts_are : w.facts ≡ counted_after (settles_at s) counted
-        (facts_after_rounds s k doing.Idle (numbers over) (over ++ last ∷ []) v.facts)
+        (facts_after_rounds s k at (numbers over) (over ++ last ∷ []) v.facts)
     pub reached : v.facts.reached ≤ w.facts.reached
+
+  -- The resume ended there: the pass is idle.
+  abbrev pub Ended : QueueStep → CoreState → ℕ → Option ℕ → ℕ → ℕ → View E S → View E S → Type 0
+  Ended s state most ticket payload k v w = CameTo doing.Idle s state most ticket payload k v w
 
   -- It drew `most` numbers and passed over each of them. The pass still owes the resumption, and
   -- the last of the numbers comes after those that it drew before.

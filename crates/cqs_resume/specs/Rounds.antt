@@ -12,7 +12,7 @@ use Rattle.cqs_rule_laws.specs.Exchanges.{FoundCell}
 use Rattle.cqs_rule_laws.specs.Layout.{resumes_place}
 use Rattle.cqs_rule_laws.specs.Object.{Object}
 use Rattle.cqs_find.specs.Finds.{longest_search}
-use Rattle.cqs_resume.specs.Counting.{duties_after}
+use Rattle.cqs_resume.specs.Counting.{duties_after, looked_after}
 use Rattle.cqs_resume.specs.Leaps.{Leap, leap_seen}
 
 -- One number of a resumption: it is drawn, and then its cell is tried until a step is made there.
@@ -100,6 +100,7 @@ facts_after_rounds s k at over rounds f = record f {
   doing = at;
   last = None;
   reached = reached_in rounds f.reached;
+  looked = looked_after s f.looked;
   passed = f.passed ++ over;
   duties = duties_after s k f.duties;
   heads = f.heads ++ all_heads rounds;

@@ -14,6 +14,15 @@
 //!
 //! After 64 numbers that were passed over the call hands the resumption back, for `finish` to go on
 //! with.
+//!
+//! In a synchronous queue (`resume_sync`, `finish_sync`) the value that a resume leaves is watched,
+//! and nothing is left to a canceller:
+//!
+//! ```text
+//!   Empty      -> Value -- found Taken: Served, its suspend took it
+//!                       '- found there as often as the queue asks -> Broken: Broke, it has it back
+//!   Cancelling: Handling, with the ticket, for `finish_sync` once the canceller has ended
+//! ```
 #![tactic(auto)]
 
 mod at_once;
@@ -23,6 +32,10 @@ mod jumping;
 mod meeting;
 mod resumed;
 mod resuming;
+mod sync_meeting;
+mod sync_resumed;
+mod sync_resuming;
+mod watching;
 
 pub use at_once::{EndedAtOnce, begin_at_once, finish_at_once};
 pub use beginning::resume_from;
@@ -30,3 +43,5 @@ pub use further::begin;
 pub use jumping::jump;
 pub use resumed::Resumed;
 pub use resuming::{finish, resume};
+pub use sync_resumed::SyncResumed;
+pub use sync_resuming::{finish_sync, resume_sync};

@@ -3,3 +3,4 @@ pub mod LowLine
 pub mod StateWords
 pub mod SemaphoreMoves
 pub mod StateFound
+pub mod LawfulHistories

@@ -1,6 +1,6 @@
 -- What a semaphore's acquire, try, release and cancel owe for their steps on the state: each is an event of the core,
 -- by the law of the core.
-use Rattle.std.proofs.Common.{◌≡◌, ◌≢◌, ℕ, ◌+◌, ◌-◌, ◌<◌, ◌≤◌, ◌^◌, Bool, true, false, List, [], ◌∷◌, ◌++◌, length, set, refl, ap, sym, ◌∙◌, subst, inr, ⊎_elim, arith, Option, Some, None, slice_get, slice_index, slice_set, get_or, nat_lt, lt-ltb, le-ltb, ne_eqb, ◌==◌, ℤ, pos, negsuc, ◌-ℤ◌, ◌+ℤ◌, ◌<ℤ◌, if◌then◌else◌}
+use Rattle.std.proofs.Common.{◌≡◌, ◌≢◌, ℕ, ◌+◌, ◌-◌, ◌<◌, ◌≤◌, ◌^◌, Bool, true, false, List, [], ◌∷◌, ◌++◌, length, set, refl, ap, sym, ◌∙◌, subst, inr, ⊎_elim, arith, Option, Some, None, slice_get, slice_index, slice_set, get_or, nat_lt, lt-ltb, le-ltb, ne_eqb, ◌==◌, ℤ, pos, negsuc, ◌-ℤ◌, ◌+ℤ◌, ◌<ℤ◌, if◌then◌else◌, ◌≤ℤ◌}
 use Rattle.std.proofs.lemmas.Bool.{cases_lt, cases_eq, eq-eqb}
 use Rattle.std.proofs.lemmas.Int.{ints}
 use Rattle.std.proofs.lemmas.List.{append-nil}
@@ -15,14 +15,15 @@ use Rattle.cqs_core.specs.declared.events.Event.TheVariants as event
 use Rattle.cqs_core.specs.declared.outcomes.Outcome.{Outcome}
 use Rattle.cqs_core.specs.declared.outcomes.Outcome.TheVariants as outcome
 use Rattle.cqs_core.specs.SemaphoreTable.{Shape, step, lowest}
-use Rattle.cqs_core.specs.SemaphoreShown.{IsCore, free_of}
-use Rattle.cqs_core.proofs.StepKeeps.{row-core}
-use Rattle.cqs_core.proofs.Bounds.{free-small}
+use Rattle.cqs_core.specs.SemaphoreCores.{IsEitherCore}
+use Rattle.cqs_core.proofs.EitherFacts.{core-fits}
+use Rattle.cqs_core.proofs.EitherQueues.{either-turned}
+use Rattle.cqs_core.proofs.EitherTable.{row-core}
 use Rattle.cqs_core.proofs.Places.{set-same}
 use Rattle.cqs_rule_laws.specs.declared.view.Facts.{Facts}
 use Rattle.cqs_rule_laws.specs.declared.view.Has.{Has}
 use Rattle.cqs_rule_laws.specs.Configured.{largest_limit}
-use Rattle.cqs_rule_laws.specs.Events.{Event as Shows, Moves, SlotsStay, IsShort, word_plus, word_after_exchange, in_any_case, where_found}
+use Rattle.cqs_rule_laws.specs.Events.{Event as Shows, Moves, SlotsStay, IsShort, IsAway, word_plus, word_after_exchange, in_any_case, where_found}
 use Rattle.cqs_rule_laws.specs.Facts.{is_owing}
 use Rattle.cqs_rule_laws.specs.Hidden.{Hidden, stands_at}
 use Rattle.cqs_rule_laws.specs.Lists.{NamesOnly}
@@ -30,9 +31,13 @@ use Rattle.cqs_rule_laws.specs.declared.view.View.{View}
 use Rattle.cqs_rule_laws.specs.Carried.{slots_when}
 use Rattle.cqs_semaphore_client.specs.SemaphoreSlots.{IsFull, GivesValue}
 use Rattle.cqs_rule_laws.specs.Slots.{laid_in, taken_off}
-use Rattle.cqs_rule_laws.specs.SlotSteps.{GivesAway, HandedIn}
+use Rattle.cqs_rule_laws.specs.Given.{times_given}
+use Rattle.cqs_rule_laws.specs.SlotSteps.{GivesAway, HandedBy}
 use Rattle.cqs_rule_laws.proofs.Handing.{off-here}
-use Rattle.cqs_semaphore_client.specs.Semaphore.{core_shown, semaphore_object, semaphore_primitive, takes_one, loads_to_try, tries, gives_one, decides}
+use Rattle.cqs_semaphore_client.specs.PlainHistories.{IsUnbroken}
+use Rattle.cqs_semaphore_client.specs.Semaphore.{core_shown, ShowsCore, semaphore_object, semaphore_primitive, takes_one, loads_to_try, tries, gives_one, decides, slot_given}
+use Rattle.cqs_semaphore_client.specs.declared.semaphore.SemClient.{SemClient}
+use Rattle.cqs_semaphore_client.specs.SemaphoreMade.{primitive_of}
 use Rattle.cqs_rule_laws.specs.Ruled.{number_at}
 use Rattle.cqs_core.specs.SemaphoreNames.{entry_names}
 use Rattle.cqs_rule_laws.specs.Held.{held_of}
@@ -44,12 +49,12 @@ use Rattle.cqs_semaphore_client.specs.UnbrokenSteps.{unbroken-more, unbroken-sam
 use Rattle.cqs_semaphore_client.proofs.Unbroken.{unbroken-if}
 use Rattle.cqs_semaphore_client.proofs.StateWords.{above-lowest, found-loaded, found-other, loaded-free, some-word, state-busy, state-enough, state-free, state-less, state-more, state-none, state-short, state-some, word-above, written}
 
-module _ (permits p : ℕ) (facts : Facts) (c : Hidden) (words : List ℕ) (log : List Entry)
-    (core : IsCore (core_shown permits c words log))
+module _ (sync : Bool) (permits p : ℕ) (facts : Facts) (c : Hidden) (words : List ℕ) (log : List Entry)
+    (core : IsEitherCore (core_shown sync permits c words log))
     (does : slice_get c.queue.doing p ≡ Some facts.doing) (has : slice_get c.has p ≡ Some facts.has)
     (short : IsShort largest_limit c.queue) where
   abbrev s : Shape
-  s = core_shown permits c words log
+  s = core_shown sync permits c words log
 
   abbrev n : ℕ
   n = slice_index words 0
@@ -57,7 +62,7 @@ module _ (permits p : ℕ) (facts : Facts) (c : Hidden) (words : List ℕ) (log 
   -- the core with this history, this state, this much held and these doings
   abbrev With : List Entry → ℤ → List ℕ → List Doing → Shape
   With history z held doings = record {
-    sync = false;
+    sync = sync;
     permits = permits;
     state = z;
     held = held;
@@ -67,7 +72,7 @@ module _ (permits p : ℕ) (facts : Facts) (c : Hidden) (words : List ℕ) (log 
 
   -- what the words and the passes show where this pass does d, has h, and the word is x
   abbrev Leaves : List Entry → Doing → Has → ℕ → Shape
-  Leaves history d h x = core_shown permits (stands_at c p d h) (slice_set words 0 x) history
+  Leaves history d h x = core_shown sync permits (stands_at c p d h) (slice_set words 0 x) history
 
   is-at : (d : Doing) → facts.doing ≡ d → slice_get c.queue.doing p ≡ Some d
   is-at d at = does ∙ ap Some at
@@ -80,9 +85,9 @@ module _ (permits p : ℕ) (facts : Facts) (c : Hidden) (words : List ℕ) (log 
       (h : Has)
       (x : ℕ) → step s e ≡ Some (record { shape = With history z held doings; outcome = o })
       → z ≡ count_in (slice_index (slice_set words 0 x) 0) → held ≡ held_of (slice_set c.has p h)
-      → doings ≡ set c.queue.doing p d → IsCore (Leaves history d h x)
+      → doings ≡ set c.queue.doing p d → IsEitherCore (Leaves history d h x)
   by-row e history o z held doings d h x is state held_same doing_same =
-      subst (λ (t : ℤ × List ℕ × List Doing). IsCore (With history t.0 t.1 t.2))
+      subst (λ (t : ℤ × List ℕ × List Doing). IsEitherCore (With history t.0 t.1 t.2))
       (λ i. (state i, held_same i, doing_same i))
       (row-core s e (record { shape = With history z held doings; outcome = o }) core is)
 
@@ -90,9 +95,9 @@ module _ (permits p : ℕ) (facts : Facts) (c : Hidden) (words : List ℕ) (log 
   by-quiet-row : (e : Event) (o : Outcome) (z : ℤ) (held : List ℕ) (doings : List Doing) (d : Doing) (h : Has) (x : ℕ)
       → step s e ≡ Some (record { shape = With log z held doings; outcome = o })
       → z ≡ count_in (slice_index (slice_set words 0 x) 0) → held ≡ held_of (slice_set c.has p h)
-      → doings ≡ set c.queue.doing p d → IsCore (Leaves (log ++ []) d h x)
+      → doings ≡ set c.queue.doing p d → IsEitherCore (Leaves (log ++ []) d h x)
   by-quiet-row e o z held doings d h x is state held_same doing_same =
-      subst (λ (l : List Entry). IsCore (Leaves l d h x)) (sym (append-nil log))
+      subst (λ (l : List Entry). IsEitherCore (Leaves l d h x)) (sym (append-nil log))
       (by-row e log o z held doings d h x is state held_same doing_same)
 
   -- what all hold after it: what they held; or the pass one more, or one less
@@ -137,7 +142,7 @@ module _ (permits p : ℕ) (facts : Facts) (c : Hidden) (words : List ℕ) (log 
   }
 
   abbrev TakesTo : Bool → Type 0
-  TakesTo b = IsCore (Leaves (log ++ (if b then entry.TakeNow p ∷ [] else entry.TakeDoor p ∷ []))
+  TakesTo b = IsEitherCore (Leaves (log ++ (if b then entry.TakeNow p ∷ [] else entry.TakeDoor p ∷ []))
       (if b then doing.Idle else doing.Door) (holding (if b then facts.has.held + 1 else facts.has.held))
       (word_plus (negsuc 0) n))
 
@@ -163,7 +168,7 @@ module _ (permits p : ℕ) (facts : Facts) (c : Hidden) (words : List ℕ) (log 
       (cases_lt 4294967296 n)
 
   abbrev LoadsTo : Bool → Type 0
-  LoadsTo b = IsCore (Leaves (log ++ (if b then [] else entry.TryBusy p ∷ []))
+  LoadsTo b = IsEitherCore (Leaves (log ++ (if b then [] else entry.TryBusy p ∷ []))
       (if b then doing.TryAt (count_in n) else doing.Idle) (holding facts.has.held) n)
 
   pub try-load-core : facts.doing ≡ doing.Idle → LoadsTo (is_above_zero n)
@@ -187,7 +192,7 @@ module _ (permits p : ℕ) (facts : Facts) (c : Hidden) (words : List ℕ) (log 
       (cases_lt 4294967296 n)
 
   abbrev SwapsTo : ℕ → Bool → Type 0
-  SwapsTo saw b = IsCore (Leaves (log ++ (if b then entry.TryGot p ∷ [] else [])) doing.Idle
+  SwapsTo saw b = IsEitherCore (Leaves (log ++ (if b then entry.TryGot p ∷ [] else [])) doing.Idle
       (holding (if b then facts.has.held + 1 else facts.has.held)) (either b (saw - 1) n))
 
   pub try-swap-core : (saw : ℕ) → facts.doing ≡ doing.TryAt (count_in saw) → SwapsTo saw (n == saw)
@@ -224,7 +229,7 @@ module _ (permits p : ℕ) (facts : Facts) (c : Hidden) (words : List ℕ) (log 
   }
 
   abbrev GivesTo : Bool → Type 0
-  GivesTo b = IsCore (Leaves (log ++ (if b then entry.GiveSent p ∷ [] else entry.GiveFreed p ∷ []))
+  GivesTo b = IsEitherCore (Leaves (log ++ (if b then entry.GiveSent p ∷ [] else entry.GiveFreed p ∷ []))
       (if b then doing.Owes else doing.Idle) giving (word_plus (pos 1) n))
 
   pub give-core : facts.doing ≡ doing.Idle → 0 < facts.has.held → n < 2 ^ 64 → n < 4294967296 + 4294967296
@@ -253,7 +258,7 @@ module _ (permits p : ℕ) (facts : Facts) (c : Hidden) (words : List ℕ) (log 
       (cases_lt n 4294967296)
 
   abbrev DecidesTo : ℕ → Bool → Type 0
-  DecidesTo k b = IsCore (Leaves (log ++ entry.Leave p k ∷ []) (doing.Decided k b) (holding facts.has.held)
+  DecidesTo k b = IsEitherCore (Leaves (log ++ entry.Leave p k ∷ []) (doing.Decided k b) (holding facts.has.held)
       (word_plus (pos 1) n))
 
   pub decide-core : (k : ℕ) → facts.doing ≡ doing.Leaving k → n < 2 ^ 64 → n < 4294967296 + 4294967296
@@ -280,14 +285,24 @@ module _ (permits p : ℕ) (facts : Facts) (c : Hidden) (words : List ℕ) (log 
       (cases_lt n 4294967296)
 
 -- the word isn't far above 0
-word-below : (n : ℕ) → free_of (count_in n) ≤ 1048576 → n < 4294967296 + 4294967296
-word-below n few = ⊎_elim
-    (λ (above : 4294967296 < n).
-    let is : count_in n ≡ pos (n - 4294967296) = grind (arith, ints) in
-    let free : n - 4294967296 ≤ 1048576 = subst (λ z. free_of z ≤ 1048576) is few in
-    omega arith)
-    (λ (below : n ≤ 4294967296). omega arith)
-    (cases_lt 4294967296 n)
+word-below : (n : ℕ) → count_in n ≤ℤ pos 1048576 → n < 4294967296 + 4294967296
+word-below n few = grind (arith, ints)
+
+-- What a step on the state leaves is shown where its core is, and where it breaks no number.
+shown-then : (sync : Bool) (permits p : ℕ) (c : Hidden) (words next : List ℕ) (log longer : List Entry)
+    (from to : Doing) (has : Has)
+    → ShowsCore sync permits c words log → slice_get c.queue.doing p ≡ Some from → IsAway from → IsAway to
+    → IsEitherCore (core_shown sync permits (stands_at c p to has) next longer) → (IsUnbroken log → IsUnbroken longer)
+    → ShowsCore sync permits (stands_at c p to has) next longer
+shown-then sync permits p c words next log longer from to has shown does away away' core unbroken = record {
+  core = core;
+  queue = either-turned sync c.queue p from to shown.queue does (watches-none from away) (watches-none to away')
+      core.sound core.plain;
+  unbroken = λ plain. unbroken (shown.unbroken plain);
+}
+  where
+    watches-none : (d : Doing) → IsAway d → (j : ℕ) → d ≡ doing.Watching j → ⊥
+    watches-none d away j is = subst IsAway is away
 
 -- One of two entries of the pass p, or none, names no other pass.
 one-silent : (p : ℕ) (b : Bool) (es fs : List Entry) → NamesOnly entry_names p es → NamesOnly entry_names p fs
@@ -323,17 +338,19 @@ some-entry true e f q = cc
 some-entry false e f q = cc
 
 -- an idle pass that may draw may acquire: it takes one from the state
-pub take-moves : {T : Type 0} (permits p : ℕ) (facts : Facts) → facts.doing ≡ doing.Idle → facts.may_draw ≡ true
-    → Moves semaphore_object (semaphore_primitive {T = T} permits) takes_one in_any_case p facts 0
+pub take-moves : {T : Type 0} (sync : Bool) (looks permits p : ℕ) (facts : Facts) → facts.doing ≡ doing.Idle
+    → facts.may_draw ≡ true
+    → Moves semaphore_object (semaphore_primitive {T = T} sync looks permits) takes_one in_any_case p facts 0
     (word_plus (negsuc 0))
-take-moves permits p facts idle may = record {
+take-moves sync looks permits p facts idle may = record {
   step = λ c words log handed shown does has short small.
-      record {
-        core = take-core permits p facts c words log shown.core does has short idle small;
-        unbroken = unbroken-if (is_above_zero (slice_index words 0)) log (entry.TakeNow p ∷ []) (entry.TakeDoor p ∷ [])
-            (unbroken-more log (entry.TakeNow p) tt shown.unbroken)
-            (unbroken-more log (entry.TakeDoor p) tt shown.unbroken);
-      };
+      shown-then sync permits p c words _ log _ facts.doing _ _ shown does (subst IsAway (sym idle) tt)
+      (if-away (is_above_zero (slice_index words 0)) doing.Idle doing.Door tt tt)
+      (take-core sync permits p facts c words log shown.core does has short idle small)
+      (λ unbroken.
+      unbroken-if (is_above_zero (slice_index words 0)) log (entry.TakeNow p ∷ []) (entry.TakeDoor p ∷ [])
+      (unbroken-more log (entry.TakeNow p) tt unbroken)
+      (unbroken-more log (entry.TakeDoor p) tt unbroken));
   silent = λ n. take-silent p (is_above_zero n);
   door = λ n q. inr may;
   ticket = λ n j q. absurd (no-ticket _ (if-ticketless (is_above_zero n) doing.Idle doing.Door tt tt) j q);
@@ -345,15 +362,17 @@ take-moves permits p facts idle may = record {
 }
 
 -- an idle pass may try: it loads the state
-pub try-load-moves : {T : Type 0} (permits p : ℕ) (facts : Facts) → facts.doing ≡ doing.Idle
-    → Moves semaphore_object (semaphore_primitive {T = T} permits) loads_to_try in_any_case p facts 0 (λ n. n)
-try-load-moves permits p facts idle = record {
+pub try-load-moves : {T : Type 0} (sync : Bool) (looks permits p : ℕ) (facts : Facts) → facts.doing ≡ doing.Idle
+    → Moves semaphore_object (semaphore_primitive {T = T} sync looks permits) loads_to_try in_any_case p facts 0
+    (λ n. n)
+try-load-moves sync looks permits p facts idle = record {
   step = λ c words log handed shown does has short small.
-      record {
-        core = try-load-core permits p facts c words log shown.core does has short idle;
-        unbroken = unbroken-if (is_above_zero (slice_index words 0)) log [] (entry.TryBusy p ∷ [])
-            (unbroken-same log shown.unbroken) (unbroken-more log (entry.TryBusy p) tt shown.unbroken);
-      };
+      shown-then sync permits p c words _ log _ facts.doing _ _ shown does (subst IsAway (sym idle) tt)
+      (if-away (is_above_zero (slice_index words 0)) (doing.TryAt (count_in (slice_index words 0))) doing.Idle tt tt)
+      (try-load-core sync permits p facts c words log shown.core does has short idle)
+      (λ unbroken.
+      unbroken-if (is_above_zero (slice_index words 0)) log [] (entry.TryBusy p ∷ [])
+      (unbroken-same log unbroken) (unbroken-more log (entry.TryBusy p) tt unbroken));
   silent = λ n. try-load-silent p (is_above_zero n);
   door = λ n q. absurd (no-door (is_above_zero n) (count_in n) q);
   ticket = λ n j q. absurd (no-ticket _ (if-ticketless (is_above_zero n) (doing.TryAt (count_in n)) doing.Idle tt tt) j
@@ -376,16 +395,17 @@ try-load-moves permits p facts idle = record {
     no-door false z q = cc
 
 -- and where it loaded a permit, it may exchange the state for one less
-pub try-swap-moves : {T : Type 0} (permits p : ℕ) (facts : Facts) (saw : ℕ) → facts.doing ≡ doing.TryAt (count_in saw)
-    → Moves semaphore_object (semaphore_primitive {T = T} permits) tries (where_found saw) p facts 0
+pub try-swap-moves : {T : Type 0} (sync : Bool) (looks permits p : ℕ) (facts : Facts) (saw : ℕ)
+    → facts.doing ≡ doing.TryAt (count_in saw)
+    → Moves semaphore_object (semaphore_primitive {T = T} sync looks permits) tries (where_found saw) p facts 0
     (word_after_exchange saw (saw - 1))
-try-swap-moves permits p facts saw at = record {
+try-swap-moves sync looks permits p facts saw at = record {
   step = λ c words log handed shown does has short small.
-      record {
-        core = try-swap-core permits p facts c words log shown.core does has short saw at;
-        unbroken = unbroken-if (where_found saw (slice_index words 0)) log (entry.TryGot p ∷ []) []
-            (unbroken-more log (entry.TryGot p) tt shown.unbroken) (unbroken-same log shown.unbroken);
-      };
+      shown-then sync permits p c words _ log _ facts.doing doing.Idle _ shown does (subst IsAway (sym at) tt) tt
+      (try-swap-core sync permits p facts c words log shown.core does has short saw at)
+      (λ unbroken.
+      unbroken-if (where_found saw (slice_index words 0)) log (entry.TryGot p ∷ []) []
+      (unbroken-more log (entry.TryGot p) tt unbroken) (unbroken-same log unbroken));
   silent = λ n. try-swap-silent p (where_found saw n);
   door = λ n q. absurd (no-door q);
   ticket = λ n j q. absurd (no-ticket doing.Idle tt j q);
@@ -406,18 +426,20 @@ try-swap-moves permits p facts saw at = record {
     same-has false q = refl
 
 -- an idle pass that holds a permit may release it: it adds one to the state
-pub give-moves : {T : Type 0} (permits p : ℕ) (facts : Facts) → facts.doing ≡ doing.Idle → 0 < facts.has.held
-    → Moves semaphore_object (semaphore_primitive {T = T} permits) gives_one in_any_case p facts 0 (word_plus (pos 1))
-give-moves permits p facts idle some = record {
+pub give-moves : {T : Type 0} (sync : Bool) (looks permits p : ℕ) (facts : Facts) → facts.doing ≡ doing.Idle
+    → 0 < facts.has.held
+    → Moves semaphore_object (semaphore_primitive {T = T} sync looks permits) gives_one in_any_case p facts 0
+    (word_plus (pos 1))
+give-moves sync looks permits p facts idle some = record {
   step = λ c words log handed shown does has short small.
-      record {
-        core = give-core permits p facts c words log shown.core does has short idle some small
-            (word-below (slice_index words 0) (free-small (core_shown permits c words log) shown.core));
-        unbroken = unbroken-if (is_below_zero (slice_index words 0)) log
-            (entry.GiveSent p ∷ []) (entry.GiveFreed p ∷ [])
-            (unbroken-more log (entry.GiveSent p) tt shown.unbroken)
-            (unbroken-more log (entry.GiveFreed p) tt shown.unbroken);
-      };
+      shown-then sync permits p c words _ log _ facts.doing _ _ shown does (subst IsAway (sym idle) tt)
+      (if-away (is_below_zero (slice_index words 0)) doing.Owes doing.Idle tt tt)
+      (give-core sync permits p facts c words log shown.core does has short idle some small
+      (word-below (slice_index words 0) ((core-fits (core_shown sync permits c words log) shown.core).high)))
+      (λ unbroken.
+      unbroken-if (is_below_zero (slice_index words 0)) log (entry.GiveSent p ∷ []) (entry.GiveFreed p ∷ [])
+      (unbroken-more log (entry.GiveSent p) tt unbroken)
+      (unbroken-more log (entry.GiveFreed p) tt unbroken));
   silent = λ n. give-silent p (is_below_zero n);
   door = λ n q. absurd (no-door (is_below_zero n) q);
   ticket = λ n j q. absurd (no-ticket _ (if-ticketless (is_below_zero n) doing.Owes doing.Idle tt tt) j q);
@@ -433,44 +455,68 @@ give-moves permits p facts idle some = record {
     no-door false q = cc
 
 -- each event but a release leaves a pass that holds the one permit its slot
-pub take-stays : {T : Type 0} (permits slots : ℕ) (v : View Entry T)
-    → SlotsStay (semaphore_primitive {T = T} permits) slots takes_one in_any_case v
-take-stays permits slots v n k x low is o = (o.0, o.1, some (is_above_zero n))
-  where
-    some : (b : Bool) → 0 < (if b then v.facts.has.held + 1 else v.facts.has.held)
-    some true = omega arith
-    some false = o.2
-
-pub try-stays : {T : Type 0} (permits slots saw : ℕ) (v : View Entry T)
-    → SlotsStay (semaphore_primitive {T = T} permits) slots tries (where_found saw) v
-try-stays permits slots saw v n k x low is o = (o.0, o.1, some (where_found saw n))
-  where
-    some : (b : Bool) → 0 < (if b then v.facts.has.held + 1 else v.facts.has.held)
-    some true = omega arith
-    some false = o.2
-
--- a semaphore without slots has none to lose
-pub none-stays : {T : Type 0} (permits slots : ℕ) (event : Shows Entry) (made : ℕ → Bool) (v : View Entry T) → slots ≡ 0
-    → SlotsStay (semaphore_primitive {T = T} permits) slots event made v
-none-stays permits slots event made v none n k x low is o = absurd (omega arith)
-
--- a release of a semaphore whose permit carries a value gives its slot away, in which a value lies
-pub give-gives : {T : Type 0} (permits slots n : ℕ) (kept : Bool) (v : View Entry T) → n ≡ slots_when kept
-    → (n ≡ 0 → ⊥) → IsFull kept v
-    → GivesAway (semaphore_primitive {T = T} permits) slots gives_one in_any_case 0 v
-give-gives permits slots n false v is some full = absurd (some is)
-give-gives {T} permits slots n true v is some full = record {
-  value = full.0;
-  laid = full.1;
-  others = λ m k x there o.
-      absurd (none-some x (sym (off-here 0 v.laid) ∙ (ap (laid_in (taken_off 0 v.laid)) (sym o.1) ∙ there)));
+pub take-stays : {T : Type 0} (x : SemClient T) (slots : ℕ) (v : View Entry T)
+    → SlotsStay semaphore_object (primitive_of x) slots takes_one in_any_case v
+take-stays x slots v = record {
+  stay = λ n k y low is o. (o.0, o.1, some (is_above_zero n) o.2);
+  none = λ n k low. given (is_above_zero n) k;
 }
   where
-    none-some : (x : Option T) → None ≡ Some x → ⊥
-    none-some x e = cc
+    given : (b : Bool) (k : ℕ) → times_given slot_given
+        (if b then entry.TakeNow v.number ∷ [] else entry.TakeDoor v.number ∷ []) k ≡ 0
+    given true k = refl
+    given false k = refl
+
+    some : (b : Bool) → 0 < v.facts.has.held → 0 < (if b then v.facts.has.held + 1 else v.facts.has.held)
+    some true held = omega arith
+    some false held = held
+
+pub try-stays : {T : Type 0} (x : SemClient T) (slots saw : ℕ) (v : View Entry T)
+    → SlotsStay semaphore_object (primitive_of x) slots tries (where_found saw) v
+try-stays x slots saw v = record {
+  stay = λ n k y low is o. (o.0, o.1, some (where_found saw n) o.2);
+  none = λ n k low. given (where_found saw n) k;
+}
+  where
+    given : (b : Bool) (k : ℕ) → times_given slot_given (if b then entry.TryGot v.number ∷ [] else []) k ≡ 0
+    given true k = refl
+    given false k = refl
+
+    some : (b : Bool) → 0 < v.facts.has.held → 0 < (if b then v.facts.has.held + 1 else v.facts.has.held)
+    some true held = omega arith
+    some false held = held
+
+-- a semaphore without slots has none to lose
+pub none-stays : {T : Type 0} (x : SemClient T) (slots : ℕ) (event : Shows Entry) (made : ℕ → Bool)
+    (v : View Entry T) → slots ≡ 0
+    → SlotsStay semaphore_object (primitive_of x) slots event made v
+none-stays x slots event made v none = record {
+  stay = λ n k y low is o. absurd (omega arith);
+  none = λ n k low. absurd (omega arith);
+}
+
+-- a release of a semaphore whose permit carries a value gives its slot away, in which a value lies
+pub give-gives : {T : Type 0} (x : SemClient T) (slots n : ℕ) (kept : Bool) (v : View Entry T)
+    → n ≡ slots_when kept → (n ≡ 0 → ⊥) → IsFull kept v
+    → GivesAway semaphore_object (primitive_of x) slots gives_one in_any_case 0 v
+give-gives x slots n false v is some full = absurd (some is)
+give-gives {T} x slots n true v is some full = record {
+  lies = full;
+  gives = λ n k low. given (is_below_zero n) k low;
+  others = λ m k y there o.
+      absurd (none-some y (sym (off-here 0 v.laid) ∙ (ap (laid_in (taken_off 0 v.laid)) (sym o.1) ∙ there)));
+}
+  where
+    none-some : (y : Option T) → None ≡ Some y → ⊥
+    none-some y e = cc
+
+    given : (b : Bool) (k : ℕ) → k < slots → times_given slot_given
+        (if b then entry.GiveSent v.number ∷ [] else entry.GiveFreed v.number ∷ []) k ≡ (if 0 == k then 1 else 0)
+    given true k low = omega arith
+    given false k low = omega arith
 
 pub gives-value : {T : Type 0} (kept : Bool) (v w : View Entry T)
-    → ((y : T) → laid_in v.laid 0 ≡ Some (Some y) → HandedIn 0 y v w) → GivesValue kept v w
+    → ((y : T) → laid_in v.laid 0 ≡ Some (Some y) → HandedBy semaphore_object 0 y v w) → GivesValue kept v w
 gives-value true v w given = given
 gives-value false v w given = tt
 
@@ -480,19 +526,22 @@ gives-none n true v w is none = absurd (omega arith)
 gives-none n false v w is none = tt
 
 -- a pass that is leaving a wait may ask: it adds one to the state
-pub decide-moves : {T : Type 0} (permits p : ℕ) (facts : Facts) (k : ℕ) → facts.doing ≡ doing.Leaving k
-    → Moves semaphore_object (semaphore_primitive {T = T} permits) decides in_any_case p facts 0 (word_plus (pos 1))
-decide-moves permits p facts k leaves = record {
+pub decide-moves : {T : Type 0} (sync : Bool) (looks permits p : ℕ) (facts : Facts) (k : ℕ)
+    → facts.doing ≡ doing.Leaving k
+    → Moves semaphore_object (semaphore_primitive {T = T} sync looks permits) decides in_any_case p facts 0
+    (word_plus (pos 1))
+decide-moves sync looks permits p facts k leaves = record {
   step = λ c words log handed shown does has short small.
-      record {
-        core = subst (λ j. IsCore (core_shown permits
-            (stands_at c p (doing.Decided j (is_below_zero (slice_index words 0))) facts.has)
-            (slice_set words 0 (word_plus (pos 1) (slice_index words 0))) (log ++ entry.Leave p j ∷ [])))
-            (sym (ap number_at leaves))
-            (decide-core permits p facts c words log shown.core does has short k leaves small
-            (word-below (slice_index words 0) (free-small (core_shown permits c words log) shown.core)));
-        unbroken = unbroken-more log (entry.Leave p (number_at facts.doing)) tt shown.unbroken;
-      };
+      shown-then sync permits p c words _ log _ facts.doing
+      (doing.Decided (number_at facts.doing) (is_below_zero (slice_index words 0))) _ shown does
+      (subst IsAway (sym leaves) tt) tt
+      (subst (λ j. IsEitherCore (core_shown sync permits
+      (stands_at c p (doing.Decided j (is_below_zero (slice_index words 0))) facts.has)
+      (slice_set words 0 (word_plus (pos 1) (slice_index words 0))) (log ++ entry.Leave p j ∷ [])))
+      (sym (ap number_at leaves))
+      (decide-core sync permits p facts c words log shown.core does has short k leaves small
+      (word-below (slice_index words 0) ((core-fits (core_shown sync permits c words log) shown.core).high))))
+      (unbroken-more log (entry.Leave p (number_at facts.doing)) tt);
   silent = λ n m apart. rw (ne_eqb p m (λ q. apart (sym q))) refl;
   door = λ n q. absurd (no-door (number_at facts.doing) (is_below_zero n) q);
   ticket = λ n j q. absurd (no-ticket (doing.Decided (number_at facts.doing) (is_below_zero n)) tt j q);

@@ -7,17 +7,15 @@ use Rattle.cqs_core.specs.declared.entries.Entry.{Entry}
 use Rattle.cqs_core.specs.SemaphoreEntries.{object_after}
 use Rattle.cqs_core.specs.SemaphoreShown.{state_of}
 use Rattle.cqs_core.specs.SemaphoreTable.{lowest}
-use Rattle.cqs_core.proofs.CoreFacts.{shows-object, state-few}
-use Rattle.cqs_semaphore_client.specs.declared.semaphore.SemClient.{SemClient}
+use Rattle.cqs_core.proofs.EitherFacts.{shows-object, core-fits}
 use Rattle.cqs_rule_laws.specs.declared.view.View.{View}
 use Rattle.cqs_rule_laws.specs.declared.view.Opening.{Opening}
 use Rattle.cqs_rule_laws.specs.Events.{Event, Moved, HasWord}
 use Rattle.cqs_rule_laws.specs.Layout.{client_place}
 use Rattle.cqs_rule_laws.specs.Loads.{CountLoaded}
-use Rattle.cqs_rule_laws.specs.Object.{Primitive}
 use Rattle.cqs_rule_laws.specs.Saw.{WasShown}
-use Rattle.cqs_semaphore_client.specs.Semaphore.{core_shown, semaphore_object, semaphore_primitive}
-use Rattle.cqs_semaphore_client.specs.SemaphorePermits.{permits_of}
+use Rattle.cqs_semaphore_client.specs.Semaphore.{core_shown, semaphore_object}
+use Rattle.cqs_semaphore_client.specs.SemaphoreMade.{permits_of, sync_of, primitive_of}
 use Rattle.cqs_semaphore_client.specs.SemaphoreSteps.{OnState, NextIs}
 use Rattle.cqs_words.specs.State.{count_in, StateFits}
 
@@ -27,27 +25,26 @@ state-fits (pos n) low few = omega (arith, ints)
 state-fits (negsuc n) low few = omega (arith, ints)
 
 module _ {T : Type 0} where
-  abbrev primitive_of : SemClient T → Primitive Entry T
-  primitive_of x = semaphore_primitive (permits_of x)
-
   state-at : (opening : Opening) (n : ℕ) (history : List Entry)
-      → WasShown primitive_of opening (HasWord 0 n) history → count_in n ≡ state_of (object_after opening.size history)
+      → WasShown (primitive_of {T = T}) opening (HasWord 0 n) history
+      → count_in n ≡ state_of (object_after opening.size history)
   state-at opening n history was =
-      let shows = shows-object (core_shown (permits_of was.client) was.hidden was.words history) was.shown.core in
+      let s = core_shown (sync_of was.client) (permits_of was.client) was.hidden was.words history in
+      let shows = shows-object s was.shown.core in
       ap count_in (sym was.holds)
       ∙ (shows.state ∙ ap (λ (o : Opening). state_of (object_after o.size history)) was.opening_is)
 
   -- the word stands for a count
   fits-at : (opening : Opening) (n : ℕ) (history : List Entry)
-      → WasShown primitive_of opening (HasWord 0 n) history → StateFits (record { value = count_in n })
+      → WasShown (primitive_of {T = T}) opening (HasWord 0 n) history → StateFits (record { value = count_in n })
   fits-at opening n history was =
-      let s = core_shown (permits_of was.client) was.hidden was.words history in
+      let s = core_shown (sync_of was.client) (permits_of was.client) was.hidden was.words history in
       subst (λ m. StateFits (record { value = count_in m })) was.holds
-      (record { value = state-fits s.state was.shown.core.range.state (state-few s was.shown.core) })
+      (record { value = state-fits s.state was.shown.core.range.state (core-fits s was.shown.core).high })
 
   -- the state
   pub on_state : (event : Event Entry) (made : ℕ → Bool) (v w : View Entry T) (n : ℕ)
-      → Moved semaphore_object primitive_of event made (client_place 0) v n w → OnState event made v n w
+      → Moved semaphore_object (primitive_of {T = T}) event made (client_place 0) v n w → OnState event made v n w
   on_state event made v w n moved =
       let found = moved.was 0 refl in
       record {
@@ -59,11 +56,12 @@ module _ {T : Type 0} where
       }
 
   -- the next number
-  pub next_is : (v w : View Entry T) (n : ℕ) → CountLoaded semaphore_object primitive_of v n w → NextIs v n w
+  pub next_is : (v w : View Entry T) (n : ℕ) → CountLoaded semaphore_object (primitive_of {T = T}) v n w → NextIs v n w
   next_is v w n loaded =
       let found = loaded.was in
       let was = found.was in
-      let shows = shows-object (core_shown (permits_of was.client) was.hidden was.words found.before) was.shown.core in
+      let s = core_shown (sync_of was.client) (permits_of was.client) was.hidden was.words found.before in
+      let shows = shows-object s was.shown.core in
       record {
         saw = loaded.saw;
         next = ap (λ h. (object_after w.opening.size h).next) (found.seen ∙ append-nil found.before)

@@ -1,7 +1,9 @@
 pub mod PlainHistories
+pub mod SemaphoreHistories
 pub mod UnbrokenSteps
 pub mod Semaphore
 pub mod SemaphoreSteps
 pub mod SemaphoreSlots
+pub mod CoreBounds
 pub mod SemaphoreClient
-pub mod SemaphorePermits
+pub mod SemaphoreMade

@@ -1,12 +1,13 @@
 -- The semaphore as a client: its one word is the state of a core, whose history is the client's.
-use Rattle.std.specs.Prelude.{◌≡◌, ℕ, ◌+◌, ◌-◌, ◌<◌, true, false, List, [], ◌∷◌, slice_index, pos, if◌then◌else◌}
+use Rattle.std.specs.Prelude.{◌≡◌, ℕ, ◌+◌, ◌-◌, ◌<◌, Bool, true, false, List, [], ◌∷◌, slice_index, pos, Option, Some, None, if◌then◌else◌}
 use Rattle.cqs_core.specs.declared.doings.Doing.{Doing}
 use Rattle.cqs_core.specs.declared.doings.Doing.TheVariants as doing
 use Rattle.cqs_core.specs.declared.entries.Entry.{Entry}
 use Rattle.cqs_core.specs.declared.entries.Entry.TheVariants as entry
 use Rattle.cqs_core.specs.SemaphoreTable.{Shape}
 use Rattle.cqs_core.specs.SemaphoreNames.{entry_names}
-use Rattle.cqs_core.specs.SemaphoreShown.{IsCore}
+use Rattle.cqs_core.specs.QueueEither.{IsSoundEither}
+use Rattle.cqs_core.specs.SemaphoreCores.{IsEitherCore}
 use Rattle.cqs_core.specs.SemaphoreSteps.{step_entries}
 use Rattle.cqs_rule_laws.specs.declared.view.Has.{Has}
 use Rattle.cqs_rule_laws.specs.declared.config.CancelMode.TheVariants.{Smart}
@@ -18,12 +19,13 @@ use Rattle.cqs_rule_laws.specs.Manner.{Manner, asks, owed}
 use Rattle.cqs_words.specs.State.{state_word, count_in, is_above_zero, is_below_zero}
 use Rattle.cqs_rule_laws.specs.Object.{Object, Primitive}
 use Rattle.cqs_rule_laws.specs.Ruled.{number_at}
-use Rattle.cqs_semaphore_client.specs.PlainHistories.{IsPlainHistory, IsUnbroken}
+use Rattle.cqs_semaphore_client.specs.PlainHistories.{IsUnbroken}
+use Rattle.cqs_semaphore_client.specs.SemaphoreHistories.{IsLawful}
 
--- the core that the table of a semaphore shows
-abbrev pub core_shown : ℕ → Hidden → List ℕ → List Entry → Shape
-core_shown permits c words log = record {
-  sync = false;
+-- the core that the table of a semaphore shows, which is synchronous or isn't
+abbrev pub core_shown : Bool → ℕ → Hidden → List ℕ → List Entry → Shape
+core_shown sync permits c words log = record {
+  sync = sync;
   permits = permits;
   state = count_in (slice_index words 0);
   held = held_of c.has;
@@ -31,42 +33,65 @@ core_shown permits c words log = record {
   queue = c.queue;
 }
 
--- That is a core which isn't synchronous, and no number was broken.
-pub record ShowsCore (permits : ℕ) (c : Hidden) (words : List ℕ) (log : List Entry) : Type 0 where
-  pub core : IsCore (core_shown permits c words log)
-  pub unbroken : IsUnbroken log
+-- That is a core, whose resumes watch the values that they leave where it is synchronous; and no
+-- number was broken where it isn't.
+pub record ShowsCore (sync : Bool) (permits : ℕ) (c : Hidden) (words : List ℕ) (log : List Entry)
+    : Type 0 where
+  pub core : IsEitherCore (core_shown sync permits c words log)
+  pub queue : IsSoundEither sync c.queue
+  pub unbroken : sync ≡ false → IsUnbroken log
 
-abbrev pub shows_core : {T : Type 0} → ℕ → Hidden → List ℕ → List Entry → List T → Type 0
-shows_core permits c words log handed = ShowsCore permits c words log
+abbrev pub shows_core : {T : Type 0} → Bool → ℕ → Hidden → List ℕ → List Entry → List T → Type 0
+shows_core sync permits c words log handed = ShowsCore sync permits c words log
 
 -- a pass that has what it waited for holds one permit more
 abbrev pub one_more : Gains
 one_more = record { held = λ held. held + 1; slots = λ payload. [] }
 
+-- a release gives the one value slot away
+abbrev pub slot_given : Entry → Option ℕ
+slot_given (entry.TakeNow c) = None
+slot_given (entry.TakeDoor c) = None
+slot_given (entry.Enter c k) = None
+slot_given (entry.TryGot c) = None
+slot_given (entry.TryBusy c) = None
+slot_given (entry.GiveFreed c) = Some 0
+slot_given (entry.GiveSent c) = Some 0
+slot_given (entry.Deliver k) = None
+slot_given (entry.Leave c k) = None
+slot_given (entry.Spoil c k) = None
+slot_given (entry.Undo c k) = None
+slot_given (entry.Late c k) = None
+slot_given (entry.LookGranted c k) = None
+slot_given (entry.LookPending c k) = None
+
 abbrev pub semaphore_object : Object Entry
 semaphore_object = record {
   names = entry_names;
-  legal = λ opening. IsPlainHistory opening.size;
+  legal = λ opening. IsLawful opening.sync opening.size;
   entries = λ step p k payload. step_entries step p k;
   gains = one_more;
+  gives = slot_given;
   most = λ opening. opening.size;
   knows = λ opening has. Unit {0};
 }
 
 -- a semaphore asks where a wait leaves, its passes come to a door, it owes one resumption at a
--- time, and its resumes don't watch
-abbrev pub semaphore_manner : Manner
-semaphore_manner = record { leaving = asks; has_door = true; source = owed; watches = false }
+-- time, and its resumes watch where it is synchronous
+abbrev pub semaphore_manner : Bool → Manner
+semaphore_manner sync = record { leaving = asks; has_door = true; source = owed; watches = sync }
 
 -- Where there is one permit, the pass that holds it may open the one slot.
 abbrev pub opens_one : ℕ → Has → ℕ → Type 0
 opens_one permits h k = (permits ≡ 1) × (k ≡ 0) × (0 < h.held)
 
-abbrev pub semaphore_primitive : {T : Type 0} → ℕ → Primitive Entry T
-semaphore_primitive permits = record {
-  opening = record { size = permits; mode = Smart; sync = false; looks = 0 };
-  shows = shows_core permits;
-  manner = semaphore_manner;
+-- By whether it is synchronous, how often a resume looks then at the value that it left, and the
+-- permits that it opens with.
+abbrev pub semaphore_primitive : {T : Type 0} → Bool → ℕ → ℕ → Primitive Entry T
+semaphore_primitive sync looks permits = record {
+  opening = record { size = permits; mode = Smart; sync = sync; looks = looks };
+  shows = shows_core sync permits;
+  manner = semaphore_manner sync;
   words = state_word (pos permits) ∷ [];
   most_limit = largest_limit;
   values = 0;

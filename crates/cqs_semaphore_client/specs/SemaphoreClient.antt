@@ -1,42 +1,79 @@
--- The semaphore is a client: each step of the queue that suits it is an event of its core, by the
--- law of the core. This file is a proof: nothing of it has to be read to know what is promised, and
--- nothing in it is taken on trust.
-use Rattle.std.proofs.Common.{◌≡◌, ◌≢◌, ℕ, zero, suc, ◌+◌, ◌-◌, ◌<◌, ◌≤◌, true, false, List, [], ◌∷◌, ◌++◌, replicate, refl, ap, sym, ◌∙◌, subst, ⊎_elim, arith, Option, Some, slice_get, nat_lt, lt-ltb, ne_eqb, ℤ, pos, le-leb, length, get_or, set, nat_le}
+-- The semaphore is a client, synchronous or not: each step of the queue that suits it is an event
+-- of its core, by the law of the core. This file is a proof: nothing of it has to be read to know
+-- what is promised, and nothing in it is taken on trust.
+use Rattle.std.proofs.Common.{◌≡◌, ◌≢◌, ℕ, zero, suc, ◌+◌, ◌-◌, ◌<◌, ◌≤◌, true, false, List, [], ◌∷◌, ◌++◌, replicate, refl, ap, sym, ◌∙◌, subst, ⊎_elim, inl, inr, arith, Option, Some, slice_get, nat_lt, lt-ltb, ne_eqb, ℤ, pos, le-leb, length, get_or, set, nat_le, Bool}
+use Rattle.std.proofs.lemmas.Bool.{cases_lt}
 use Rattle.std.proofs.lemmas.Option.{get_or_from_slice_get}
-use Rattle.std.proofs.lemmas.List.{length-set}
-use Rattle.std.proofs.lemmas.List.Sums.{sum_by-set, get_or-le-sum_by}
-use mathlib.Core.Logic.{dite}
-use native.Mathlib.Decide.{ℕ_discrete}
 use Rattle.std.specs.Prelude.{slice_index, slice_set}
 use Rattle.std.proofs.lemmas.Int.{ints}
 use Rattle.cqs_core.specs.declared.cells.CoreCell.{CoreCell}
+use Rattle.cqs_core.specs.declared.doings.Doing.TheVariants as doing
 use Rattle.cqs_core.specs.declared.entries.Entry.{Entry}
 use Rattle.cqs_core.specs.QueueSteps as step
-use Rattle.cqs_core.specs.QueueSteps.{QueueStep, row_of, StepRow, at_counter, at_cell, Gain, nothing, its_own, a_debt, Cost, no_cost, one_owed, one_element, IsOpenStep}
+use Rattle.cqs_core.specs.QueueSteps.{QueueStep, Makers, card_of, row_of, StepRow, at_counter, at_cell, Gain, nothing, its_own, a_debt, Cost, no_cost, one_owed, one_element, IsOpenStep}
 use Rattle.cqs_core.specs.SemaphoreNames.{entry_names}
-use Rattle.cqs_core.specs.SemaphoreSteps.{IsSemaphoreStep, step_entries, shape_after, held_by, gain_of}
-use Rattle.cqs_core.proofs.SemaphoreSteps.{step-core}
-use Rattle.cqs_core.proofs.EitherQueues.{either-sound}
+use Rattle.cqs_core.specs.SemaphoreSteps.{IsSemaphoreStep, IsSyncSemaphoreStep, step_entries, shape_after, held_by, gain_of}
+use Rattle.cqs_core.proofs.SemaphoreSteps.{step-core, step-sync-core}
+use Rattle.cqs_core.specs.QueueEither.{IsSoundEither, MayBeMade}
+use Rattle.cqs_core.proofs.EitherFacts.{either-core, plain-core, core-fits}
+use Rattle.cqs_core.proofs.EitherHands.{handed-core}
+use Rattle.cqs_core.proofs.EitherQueues.{step-either}
+use Rattle.cqs_core.proofs.EitherRuns.{opened-either}
+use Rattle.cqs_core.proofs.RunsKeep.{handed}
 use Rattle.cqs_core.specs.SemaphoreTable.{Shape}
-use Rattle.cqs_core.specs.SemaphoreShown.{IsCore, opening_shape}
+use Rattle.cqs_core.specs.SemaphoreCores.{IsEitherCore, opening_of}
 use Rattle.cqs_core.specs.SemaphoreRuns.{held_after}
-use Rattle.cqs_core.proofs.OpenedCore.{opened-core, hand_over-core}
 use Rattle.cqs_core.proofs.Places.{get-below, get-set_else}
-use Rattle.cqs_core.proofs.Bounds.{reached-few, held-small}
-use Rattle.cqs_core.proofs.FirstOfWay.{ending-within}
+use Rattle.cqs_core.proofs.QueueOpens.{get-replicate}
 use Rattle.cqs_rule_laws.specs.declared.view.Has.{Has}
 use Rattle.cqs_rule_laws.specs.Client.{IsClient, KeepsSlots, IsBegun, begun_by, no_number}
+use Rattle.cqs_rule_laws.specs.Given.{times_given}
 use Rattle.cqs_rule_laws.specs.Held.{held_of}
+use Rattle.cqs_rule_laws.proofs.PaysAway.{pays-none}
 use Rattle.cqs_rule_laws.proofs.Held.{held-at, held-is, held-set, held-kept}
 use Rattle.cqs_rule_laws.specs.Hidden.{Hidden, hidden_after, has_after, has_gained, has_paid, has_both, has_none, hands_over}
 use Rattle.cqs_rule_laws.specs.Lists.{NamesOnly}
-use Rattle.cqs_rule_laws.specs.Manner.{Suits}
+use Rattle.cqs_rule_laws.specs.Manner.{IsOneOf, Suits}
 use Rattle.cqs_rule_laws.specs.Opened.{first_hidden, four}
-use Rattle.cqs_semaphore_client.specs.Semaphore.{core_shown, one_more, opens_one, semaphore_manner, semaphore_object, semaphore_primitive}
+use Rattle.cqs_semaphore_client.specs.CoreBounds.{held-few, one-holds, reached-few}
+use Rattle.cqs_semaphore_client.specs.PlainHistories.{IsUnbroken}
+use Rattle.cqs_semaphore_client.specs.Semaphore.{core_shown, ShowsCore, one_more, opens_one, slot_given, semaphore_manner, semaphore_object, semaphore_primitive}
 use Rattle.cqs_rule_laws.specs.Views.{first_has}
 use Rattle.cqs_rule.proofs.PlainQueues.{suits-none}
 use Rattle.cqs_semaphore_client.specs.UnbrokenSteps.{unbroken-none, unbroken-step}
 use Rattle.cqs_words.specs.State.{state_word, count_in}
+
+-- no step of the queue gives the value slot away
+step-given : (s : QueueStep) (p k j : ℕ) → times_given slot_given (step_entries s p k) j ≡ 0
+step-given step.draws p k j = refl
+step-given step.enters p k j = refl
+step-given step.reaches p k j = refl
+step-given step.begins p k j = refl
+step-given step.puts p k j = refl
+step-given step.installs p k j = refl
+step-given step.takes p k j = refl
+step-given step.serves p k j = refl
+step-given step.leaves p k j = refl
+step-given step.delegates p k j = refl
+step-given step.passes_over p k j = refl
+step-given step.ends_refused p k j = refl
+step-given step.ends_missed p k j = refl
+step-given step.starts_leaving p k j = refl
+step-given step.leaves_line p k j = refl
+step-given step.leaves_at_once p k j = refl
+step-given step.settles p k j = refl
+step-given step.settles_owing p k j = refl
+step-given step.refuses p k j = refl
+step-given step.refuses_value p k j = refl
+step-given (step.looks step.pends) p k j = refl
+step-given (step.looks step.grants) p k j = refl
+step-given (step.looks step.late) p k j = refl
+step-given (step.in_sync step.leaves_watched) p k j = refl
+step-given (step.in_sync step.sees_value) p k j = refl
+step-given (step.in_sync step.sees_taken) p k j = refl
+step-given (step.in_sync step.breaks) p k j = refl
+step-given (step.in_sync step.takes_watched) p k j = refl
+step-given (step.in_sync step.finds_broken) p k j = refl
 
 silent-step : (s : QueueStep) (p k payload : ℕ) → NamesOnly entry_names p (step_entries s p k)
 silent-step step.draws p k payload n apart = rw (ne_eqb p n (λ q. apart (sym q))) refl
@@ -93,12 +130,9 @@ held-after (at_cell row) l p payload has there = gained row.gain
     gained a_debt = held-kept l p has (has_gained one_more a_debt payload has) there refl
 
 -- the steps that suit a semaphore are those that keep its core
-suiting : (t : QueueStep) → Suits semaphore_manner t → IsSemaphoreStep t
+suiting : (t : QueueStep) → Suits (semaphore_manner false) t → IsSemaphoreStep t
 suiting step.draws suits = tt
-suiting step.enters suits = absurd (door-drawn suits)
-  where
-    door-drawn : true ≡ false → ⊥
-    door-drawn q = cc
+suiting step.enters suits = absurd (cc (suits))
 suiting step.reaches suits = tt
 suiting step.begins suits = suits
 suiting step.puts suits = suits
@@ -118,23 +152,82 @@ suiting step.settles_owing suits = tt
 suiting step.refuses suits = tt
 suiting step.refuses_value suits = tt
 suiting (step.looks e) suits = tt
-suiting (step.in_sync e) suits = suits-none semaphore_manner refl e suits
+suiting (step.in_sync e) suits = suits-none (semaphore_manner false) refl e suits
 
--- each of them is an event of the core, or none
-steps-core : (permits : ℕ) (c : Hidden) (t : QueueStep) (p k : ℕ) (found : Option CoreCell)
-    (has : Has) (payload : ℕ)
-    (words : List ℕ) (log : List Entry)
-    → IsCore (core_shown permits c words log) → IsOpenStep c.queue t p k found
+-- and so of a synchronous one
+suiting-sync : (t : QueueStep) → Suits (semaphore_manner true) t → IsSyncSemaphoreStep t
+suiting-sync step.draws suits = tt
+suiting-sync step.enters suits = absurd (cc (suits))
+suiting-sync step.reaches suits = tt
+suiting-sync step.begins suits = suits
+suiting-sync step.puts suits = suits
+suiting-sync step.installs suits = tt
+suiting-sync step.takes suits = absurd (cc (suits))
+suiting-sync step.serves suits = tt
+suiting-sync step.leaves suits = absurd (cc (suits))
+suiting-sync step.delegates suits = let watches = suits.1 in absurd (cc (watches))
+suiting-sync step.passes_over suits = tt
+suiting-sync step.ends_refused suits = tt
+suiting-sync step.ends_missed suits = suits
+suiting-sync step.starts_leaving suits = tt
+suiting-sync step.leaves_line suits = suits
+suiting-sync step.leaves_at_once suits = suits
+suiting-sync step.settles suits = tt
+suiting-sync step.settles_owing suits = tt
+suiting-sync step.refuses suits = tt
+suiting-sync step.refuses_value suits = tt
+suiting-sync (step.looks e) suits = tt
+suiting-sync (step.in_sync e) suits = tt
+
+-- each of them is one that the queue of its kind may make
+suits-queue : (sync : Bool) (m : Makers) → IsOneOf (semaphore_manner sync) m → MayBeMade sync m
+suits-queue sync step.each_client suits = tt
+suits-queue sync step.without_door suits = tt
+suits-queue sync step.with_debts suits = tt
+suits-queue sync step.with_elements suits = tt
+suits-queue sync step.in_smart_mode suits = tt
+suits-queue sync step.who_ask suits = tt
+suits-queue sync step.who_pass_on suits = tt
+suits-queue sync step.who_leave_at_once suits = tt
+suits-queue sync step.who_leave suits = suits
+suits-queue sync step.who_delegate suits = suits.1
+suits-queue sync step.who_watch suits = suits
+
+-- and is an event of the core, or none
+core-after : (sync : Bool) (permits : ℕ) (c : Hidden) (t : QueueStep) (p k : ℕ)
+    (found : Option CoreCell) (words : List ℕ) (log : List Entry)
+    → IsEitherCore (core_shown sync permits c words log) → IsOpenStep c.queue t p k found
+    → Suits (semaphore_manner sync) t → c.queue.suspends < no_number
+    → c.queue.resumes < no_number
+    → IsEitherCore (shape_after (core_shown sync permits c words log) t p k found)
+core-after false permits c t p k found words log core opens suits low low' =
+    let s = core_shown false permits c words log in
+    either-core (shape_after s t p k found)
+    (step-core s t p k found (plain-core s core refl) (suiting t suits) opens low low')
+core-after true permits c t p k found words log core opens suits low low' =
+    step-sync-core (core_shown true permits c words log) t p k found core refl
+    (suiting-sync t suits) opens low low'
+
+steps-core : (sync : Bool) (permits : ℕ) (c : Hidden) (t : QueueStep) (p k : ℕ)
+    (found : Option CoreCell) (has : Has) (payload : ℕ) (words : List ℕ) (log : List Entry)
+    → IsEitherCore (core_shown sync permits c words log) → IsOpenStep c.queue t p k found
     → slice_get c.has p ≡ Some has
-    → Suits semaphore_manner t → c.queue.suspends < no_number → c.queue.resumes < no_number
-    → IsCore (core_shown permits (hidden_after one_more c t p k found has payload) words
+    → Suits (semaphore_manner sync) t → c.queue.suspends < no_number
+    → c.queue.resumes < no_number
+    → IsEitherCore (core_shown sync permits (hidden_after one_more c t p k found has payload) words
     (log ++ step_entries t p k))
-steps-core permits c t p k found has payload words log core opens there suits low low' =
-    let s = core_shown permits c words log in
-    let after : Shape = shape_after s t p k found in
-    subst (λ l. IsCore (record after { held = l }))
+steps-core sync permits c t p k found has payload words log core opens there suits low low' =
+    let after : Shape = shape_after (core_shown sync permits c words log) t p k found in
+    subst (λ l. IsEitherCore (record after { held = l }))
     (held-after (row_of t) c.has p payload has there)
-    (step-core s t p k found core (suiting t suits) opens low low')
+    (core-after sync permits c t p k found words log core opens suits low low')
+
+steps-unbroken : (sync : Bool) (t : QueueStep) (p k : ℕ) (log : List Entry)
+    → Suits (semaphore_manner sync) t
+    → (sync ≡ false → IsUnbroken log) → sync ≡ false → IsUnbroken (log ++ step_entries t p k)
+steps-unbroken false t p k log suits unbroken plain =
+    unbroken-step t p k log (suiting t suits) (unbroken plain)
+steps-unbroken true t p k log suits unbroken plain = absurd (cc (plain))
 
 -- what the passes hold as a semaphore opens: nothing
 none-held : (passes : ℕ) → held_of (replicate passes (first_has 0)) ≡ replicate passes 0
@@ -150,14 +243,15 @@ first-held (suc n) any = let less : suc n - 1 ≡ n = omega arith in rw less (no
 opens-state : (permits : ℕ) → count_in (state_word (pos permits)) ≡ pos permits
 opens-state permits = grind (arith, ints)
 
-begins-core : (permits passes : ℕ) → 0 < permits → permits ≤ 1048576 → 0 < passes → passes ≤ 32
-    → IsCore (core_shown permits (first_hidden passes 0 0) (four (state_word (pos permits) ∷ []))
-    [])
-begins-core permits passes some low any few =
-    let queue = (opening_shape permits passes).queue in
+begins-core : (sync : Bool) (permits passes : ℕ) → 0 < permits → permits ≤ 1048576 → 0 < passes
+    → passes ≤ 32
+    → IsEitherCore (core_shown sync permits (first_hidden passes 0 0)
+    (four (state_word (pos permits) ∷ [])) [])
+begins-core sync permits passes some low any few =
+    let queue = (opening_of sync permits passes).queue in
     subst (λ (z : List ℕ × ℤ).
-    IsCore (record {
-      sync = false;
+    IsEitherCore (record {
+      sync = sync;
       permits = permits;
       state = z.1;
       held = z.0;
@@ -165,19 +259,37 @@ begins-core permits passes some low any few =
       queue = queue;
     }))
     (λ i. (sym (first-held passes any) i, sym (opens-state permits) i))
-    (opened-core permits passes
+    (opened-either sync permits passes
     (record { some_permits = some; few_permits = low; some_passes = any; few_passes = few }))
 
+-- a queue in which nothing was done yet has no cell, and nobody watches one
+begins-queue : (sync : Bool) (permits passes : ℕ) (words : List ℕ)
+    → IsEitherCore (core_shown sync permits (first_hidden passes 0 0) words [])
+    → IsSoundEither sync (first_hidden passes 0 0).queue
+begins-queue sync permits passes words core = record {
+  reads = core.sound;
+  plain = core.plain;
+  watches = λ p k does. absurd (idle p k does);
+  lone = λ p r k one other. absurd (idle p k one);
+  watched = λ is k cell found at. absurd (cc);
+  undelegated = λ is k cell found at. absurd (cc);
+}
+  where
+    idle : (p k : ℕ) → slice_get (replicate passes doing.Idle) p ≡ Some (doing.Watching k) → ⊥
+    idle p k does =
+        let is : doing.Watching k ≡ doing.Idle = get-replicate passes p doing.Idle _ does in
+        absurd (cc (is))
+
 -- permits that one pass gives and another gets are all still held
-given-permits : (permits : ℕ) (c : Hidden) (from to many : ℕ) (mine theirs gave got : Has)
-    (words : List ℕ) (log : List Entry)
-    → IsCore (core_shown permits c words log) → from ≢ to → slice_get c.has from ≡ Some mine
+given-permits : (sync : Bool) (permits : ℕ) (c : Hidden) (from to many : ℕ)
+    (mine theirs gave got : Has) (words : List ℕ) (log : List Entry)
+    → ShowsCore sync permits c words log → from ≢ to → slice_get c.has from ≡ Some mine
     → slice_get c.has to ≡ Some theirs → many ≤ mine.held → gave.held ≡ mine.held - many
     → got.held ≡ theirs.held + many
-    → IsCore (core_shown permits (hands_over c from gave to got) words log)
-given-permits permits c from to many mine theirs gave got words log core apart has there enough left
-    more =
-    let s = core_shown permits c words log in
+    → ShowsCore sync permits (hands_over c from gave to got) words log
+given-permits sync permits c from to many mine theirs gave got words log shown apart has there
+    enough left more =
+    let s = core_shown sync permits c words log in
     let held = held_of c.has in
     let from_has : slice_get held from ≡ Some mine.held = held-at c.has from mine has in
     let to_has : slice_get held to ≡ Some theirs.held = held-at c.has to theirs there in
@@ -196,65 +308,44 @@ given-permits permits c from to many mine theirs gave got words log core apart h
     (λ i. slice_set (slice_set held from (holds i - many)) to (lies i + many))
     ∙ (ap (λ l. set l to (theirs.held + many)) (held-set c.has from gave (mine.held - many) left)
     ∙ held-set (slice_set c.has from gave) to got (theirs.held + many) more) in
-    subst (λ l. IsCore (record s { held = l })) is
-    (hand_over-core s (record s { held = held_after held from to many }) from to many core
-    (rw (first, second, few) refl))
+    let next = record s { held = held_after held from to many } in
+    record {
+      core = subst (λ l. IsEitherCore (record s { held = l })) is
+          (handed-core s next shown.core
+          (handed s next from to many (rw (first, second, few) refl)));
+      queue = shown.queue;
+      unbroken = shown.unbroken;
+    }
 
 -- a semaphore begins no resumption but by a release
-none-begun : (cost : Cost) → IsBegun cost → Suits semaphore_manner (begun_by cost) → ⊥
-none-begun no_cost begun suits = begun
-none-begun one_owed begun suits = suits
-none-begun one_element begun suits = suits
-
--- Where there is one permit, one pass holds it.
-one-holder : (c : Hidden) (words : List ℕ) (log : List Entry) (p q : ℕ) (mine theirs : Has)
-    → IsCore (core_shown 1 c words log)
-    → slice_get c.has p ≡ Some mine → slice_get c.has q ≡ Some theirs → 0 < mine.held
-    → 0 < theirs.held → p ≡ q
-one-holder c words log p q mine theirs core here there some some' = dite (ℕ_discrete p q)
-    (λ (same : p ≡ q). same)
-    (λ (apart : p ≢ q).
-    let s = core_shown 1 c words log in
-    let held = held_of c.has in
-    let none = set held p 0 in
-    let at = held-at c.has p mine here in
-    let at' = held-at c.has q theirs there in
-    let low : p < length held = get-below held p mine.held at in
-    let low' : q < length held = get-below held q theirs.held at' in
-    let long = length-set held p 0 in
-    let is : get_or held p 0 ≡ mine.held = held-is c.has p mine here in
-    let other : get_or none q 0 ≡ theirs.held =
-    get_or_from_slice_get none q theirs.held 0 (get-set_else held p q 0 apart ∙ at') in
-    let less = sum_by-set (λ (n : ℕ). n) held p 0 0 low in
-    let one = get_or-le-sum_by (λ (n : ℕ). n) none q 0 (omega arith) in
-    let few = ending-within s.queue core.sound core.covered in
-    let all = core.conserved in
-    absurd (omega arith))
-
--- no pass holds more permits than there are
-held-few : (s : Shape) (p n : ℕ) → IsCore s → slice_get s.held p ≡ Some n → n ≤ s.permits
-held-few s p n core there =
-    let few = ending-within s.queue core.sound core.covered in
-    let all = core.conserved in
-    let below : p < length s.held = get-below s.held p n there in
-    let is : get_or s.held p 0 ≡ n = get_or_from_slice_get s.held p n 0 there in
-    let one = get_or-le-sum_by (λ (m : ℕ). m) s.held p 0 below in
-    omega arith
+none-begun : (sync : Bool) (cost : Cost) → IsBegun cost
+    → Suits (semaphore_manner sync) (begun_by cost) → ⊥
+none-begun sync no_cost begun suits = begun
+none-begun sync one_owed begun suits = suits
+none-begun sync one_element begun suits = suits
 
 -- the slot of a semaphore is that of the pass that holds its one permit
-semaphore-slots : {T : Type 0} (permits : ℕ)
-    → KeepsSlots semaphore_object (semaphore_primitive {T = T} permits)
-semaphore-slots permits = record {
+semaphore-slots : {T : Type 0} (sync : Bool) (looks permits : ℕ)
+    → KeepsSlots semaphore_object (semaphore_primitive {T = T} sync looks permits)
+semaphore-slots sync looks permits = record {
   apart = λ c words log handed p q k mine theirs shown here there o o'.
-      one-holder c words log p q mine theirs
-      (subst (λ n. IsCore (core_shown n c words log)) o.0 shown.core) here there o.2 o'.2;
+      one-holds (core_shown sync permits c words log) p q mine.held theirs.held shown.core o.0
+      (held-at c.has p mine here) (held-at c.has q theirs there) o.2 o'.2;
   few = λ c words log handed p has shown there.
-      held-few (core_shown permits c words log) p has.held shown.core (held-at c.has p has there);
+      held-few (core_shown sync permits c words log) p has.held shown.core
+      (held-at c.has p has there);
   known = λ c words log handed p has shown there. tt;
   steps = λ s has payload k suits kept o. (o.0, o.1, after (row_of s) has payload o.2);
   gathers = λ mine theirs k o. ⊎_elim
       (λ (a : opens_one permits mine k). (a.0, a.1, let some = a.2 in omega arith))
       (λ (b : opens_one permits theirs k). (b.0, b.1, let some = b.2 in omega arith)) o;
+  gives = λ s p k payload j suits. step-given s p k j
+      ∙ sym (pays-none (semaphore_manner sync) (λ e. e) s payload j suits);
+  gathered = λ mine theirs k o. ⊎_elim
+      (λ (a : 0 < mine.held). inl (o.0, o.1, a))
+      (λ (none : mine.held ≤ 0). inr (o.0, o.1, let some = o.2 in omega arith))
+      (cases_lt 0 mine.held);
+  bare = λ has k o. let some = o.2 in absurd (omega arith);
   hands_in = λ c words log handed k value shown. shown;
 }
   where
@@ -275,48 +366,49 @@ semaphore-slots permits = record {
     after (at_counter row) has payload some = paid row.cost has payload some
     after (at_cell row) has payload some = gained row.gain has payload some
 
--- a semaphore with permits from 1 to 1,048,576
-pub semaphore-client : {T : Type 0} (permits : ℕ) → 0 < permits → permits ≤ 1048576
-    → IsClient semaphore_object (semaphore_primitive {T = T} permits)
-semaphore-client permits some low = record {
+-- a semaphore of either kind with permits from 1 to 1,048,576
+pub semaphore-client : {T : Type 0} (sync : Bool) (looks permits : ℕ) → 0 < permits
+    → permits ≤ 1048576 → IsClient semaphore_object (semaphore_primitive {T = T} sync looks permits)
+semaphore-client sync looks permits some low = record {
   mode = refl;
   sync = refl;
   begins = λ passes any few.
-      record { core = begins-core permits passes some low any few; unbroken = unbroken-none };
+      let core = begins-core sync permits passes some low any few in
+      record {
+        core = core;
+        queue = begins-queue sync permits passes (four (state_word (pos permits) ∷ [])) core;
+        unbroken = λ plain. unbroken-none;
+      };
   steps = λ c t p k found has payload words log handed shown opens there paid suits low low'.
       record {
-        core = steps-core permits c t p k found has payload words log shown.core opens there suits
-            low low';
-        unbroken = unbroken-step t p k log (suiting t suits) shown.unbroken;
+        core = steps-core sync permits c t p k found has payload words log shown.core opens there
+            suits low low';
+        queue = step-either sync c.queue t p k found (suits-queue sync (card_of t).makers suits)
+            shown.queue opens;
+        unbroken = steps-unbroken sync t p k log suits shown.unbroken;
       };
   counts = λ c p may words log handed shown.
-      record { core = shown.core; unbroken = shown.unbroken };
+      record { core = shown.core; queue = shown.queue; unbroken = shown.unbroken };
   hands = λ c from to mine theirs words log handed shown apart idle idle' has there.
-      record {
-        core = given-permits permits c from to mine.held mine theirs (has_none mine)
-            (has_both theirs mine) words log shown.core apart has there (omega arith) (omega arith)
-            refl;
-        unbroken = shown.unbroken;
-      };
+      given-permits sync permits c from to mine.held mine theirs (has_none mine)
+      (has_both theirs mine) words log shown apart has there (omega arith) (omega arith) refl;
   shares = λ c from to many mine theirs words log handed shown apart idle idle' has there enough.
-      record {
-        core = given-permits permits c from to many mine theirs
-            (record mine { held = mine.held - many })
-            (record theirs { held = theirs.held + many }) words log shown.core apart has there
-            enough refl refl;
-        unbroken = shown.unbroken;
-      };
+      given-permits sync permits c from to many mine theirs
+      (record mine { held = mine.held - many })
+      (record theirs { held = theirs.held + many }) words log shown apart has there
+      enough refl refl;
   silent = silent-step;
   quiet = record { drawing = λ p k payload. refl; passing = λ p k payload. refl };
-  sound = λ c words log handed shown. either-sound c.queue shown.core.sound;
+  sound = λ c words log handed shown. shown.queue;
   legal_shown = λ c words log handed shown.
       record { legal = shown.core.legal; unbroken = shown.unbroken };
   held_fits = λ c words log handed p has shown there.
-      let few = held-small (core_shown permits c words log) p has.held shown.core
-      (held-at c.has p has there) in omega arith;
+      let fits = (core-fits (core_shown sync permits c words log) shown.core).held p in
+      let is : slice_index (held_of c.has) p ≡ has.held = held-is c.has p has there in
+      omega arith;
   reaches_few = λ c words log handed p shown owes.
-      let few = reached-few (core_shown permits c words log) p shown.core owes in omega arith;
+      let few = reached-few (core_shown sync permits c words log) p shown.core owes in omega arith;
   begins_few = λ c words log handed p has cost payload shown idle there paid begun suits.
-      absurd (none-begun cost begun suits);
-  slots = semaphore-slots permits;
+      absurd (none-begun sync cost begun suits);
+  slots = semaphore-slots sync looks permits;
 }

@@ -11,7 +11,7 @@ use Rattle.cqs_core.specs.declared.entries.Entry.{Entry}
 use Rattle.cqs_core.specs.SemaphoreNames.{entry_names}
 use Rattle.cqs_rule_laws.specs.declared.view.View.{View}
 use Rattle.cqs_semaphore.specs.Calls.{Course}
-use Rattle.cqs_semaphore_client.specs.PlainHistories.{IsPlainHistory}
+use Rattle.cqs_semaphore_client.specs.SemaphoreHistories.{IsLawful}
 use Rattle.cqs_semaphore_client.specs.Semaphore.{semaphore_object}
 use Rattle.cqs_rule_laws.proofs.Courses.{course-then}
 use Rattle.cqs_rule_laws.proofs.Lists.{has_right}
@@ -33,7 +33,7 @@ has-at (x ∷ l) (suc i) n e = inr (has-at l i n e)
 
 module _ {T : Type 0} where
   -- no call
-  pub course-none : (v : View Entry T) → IsPlainHistory v.opening.size v.seen → Course v [] v
+  pub course-none : (v : View Entry T) → IsLawful v.opening.sync v.opening.size v.seen → Course v [] v
   course-none v legal = record {
     number = refl;
     more = [];

@@ -12,7 +12,7 @@ use Rattle.cqs_rule_laws.specs.Lists.{part}
 use Rattle.cqs_rule_laws.proofs.Calls.{same-here, same-then}
 use Rattle.cqs_semaphore.specs.Calls.{CallRule}
 use Rattle.cqs_semaphore.specs.Entries.{took_entries, came_by}
-use Rattle.cqs_semaphore_client.specs.PlainHistories.{IsPlainHistory}
+use Rattle.cqs_semaphore_client.specs.SemaphoreHistories.{IsLawful}
 use Rattle.cqs_semaphore_client.specs.Semaphore.{semaphore_object}
 use Rattle.cqs_rule_laws.proofs.Courses.{course-call, course-then}
 use Rattle.cqs_semaphore_crew.specs.declared.counts.Acquires.{Acquires}
@@ -32,7 +32,7 @@ one_more x = count_of (x + 1)
 
 module _ {T : Type 0} where
   -- nothing
-  pub adds-none : (due : ℕ) (v : View Entry T) (c : Counts) → IsPlainHistory v.opening.size v.seen
+  pub adds-none : (due : ℕ) (v : View Entry T) (c : Counts) → IsLawful v.opening.sync v.opening.size v.seen
       → Adds due due v c v c
   adds-none due v c legal = record {
     own = [];

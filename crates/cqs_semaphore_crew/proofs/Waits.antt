@@ -7,7 +7,7 @@ use Rattle.cqs_core.specs.declared.entries.Entry.TheVariants as entry
 use Rattle.cqs_rule_laws.specs.declared.view.View.{View}
 use Rattle.cqs_semaphore.specs.declared.answers.Permit.{Permit}
 use Rattle.cqs_semaphore.specs.Calls.{CallRule, Course}
-use Rattle.cqs_semaphore_client.specs.PlainHistories.{IsPlainHistory}
+use Rattle.cqs_semaphore_client.specs.SemaphoreHistories.{IsLawful}
 use Rattle.cqs_semaphore_client.specs.Semaphore.{semaphore_object}
 use Rattle.cqs_rule_laws.proofs.Courses.{course-call, course-then}
 use Rattle.cqs_semaphore_crew.specs.Tallies.{given_up, EndsWait, LooksThen}
@@ -20,7 +20,7 @@ ends-given p k None = refl
 
 module _ {T : Type 0} where
   -- no look yet
-  pub looks-none : (k : ℕ) (v : View Entry T) → IsPlainHistory v.opening.size v.seen → LooksThen k [] v v
+  pub looks-none : (k : ℕ) (v : View Entry T) → IsLawful v.opening.sync v.opening.size v.seen → LooksThen k [] v v
   looks-none k v legal = record {
     looks = [];
     pending = All-nil (λ e. e ≡ entry.LookPending v.number k);

@@ -7,9 +7,9 @@ use cqs_rule::{Carries, ClientWords};
 use cqs_words::StateWord;
 
 impl<T: Carries> ClientWords for SemClient<T> {
-    ghost use Rattle.cqs_semaphore_client.specs.Semaphore.{semaphore_object, semaphore_primitive};
+    ghost use Rattle.cqs_semaphore_client.specs.Semaphore.{semaphore_object};
     ghost use Rattle.cqs_semaphore_client.specs.SemaphoreClient.{semaphore-client};
-    ghost use Rattle.cqs_semaphore_client.specs.SemaphorePermits.{permits_of};
+    ghost use Rattle.cqs_semaphore_client.specs.SemaphoreMade.{permits_of, sync_of, looks_of, primitive_of};
     ghost use Rattle.cqs_rule_laws.specs.Carried.{slots_when};
 
     type Slot = T;
@@ -18,7 +18,7 @@ impl<T: Carries> ClientWords for SemClient<T> {
 
     ghost object = { semaphore_object };
 
-    ghost primitive = { λ x. semaphore_primitive (permits_of x) };
+    ghost primitive = { primitive_of };
 
     ghost value_slots = { λ x. slots_when T.kept };
 
@@ -53,5 +53,5 @@ impl<T: Carries> ClientWords for SemClient<T> {
         T::wake(words, word);
     }
 
-    ghost keeps = { λ x. semaphore-client (permits_of x) x.some x.few };
+    ghost keeps = { λ x. semaphore-client (sync_of x) (looks_of x) (permits_of x) x.some x.few };
 }

@@ -28,6 +28,7 @@ use Rattle.cqs_semaphore.specs.Alone.{IsFirstOf}
 use Rattle.cqs_rule_laws.specs.CallRule.{IsReady}
 use Rattle.cqs_semaphore.specs.Calls.{Rests, plain_after}
 use Rattle.cqs_semaphore.specs.Causes.{drawn_in}
+use Rattle.cqs_semaphore.proofs.PlainPasses.{plain-seen}
 use Rattle.cqs_semaphore.specs.Steps.{HasCancelled}
 use Rattle.cqs_mutex.specs.declared.answers.Locked.TheVariants.{Now, Later}
 use Rattle.cqs_mutex.specs.declared.answers.LockLeft.TheVariants.{Cancelled, TooLate}
@@ -48,7 +49,8 @@ use Rattle.cqs_floor_alone_kinds.proofs.PassRests.{Comes, empty-found, first-fou
 use Rattle.cqs_floor_alone_kinds.proofs.QueueSends.{HasLeft}
 
 pub mutex-lawful : IsLawful sole_mutex
-mutex-lawful = one-lawful mutex_pass (λ x belongs. belongs.mine.live.legal)
+mutex-lawful = one-lawful mutex_pass
+    (λ x belongs. plain-seen x.mutex.semaphore belongs.mine (λ s. refl) belongs.mine.live.legal)
 
 -- a mutex as it is made
 pub mutex_opened : (x : MutexSole) (takes : ℕ) (config : Config) → takes ≤ 524288 → config.limit ≡ takes + 1

@@ -1,5 +1,5 @@
 -- A semaphore of the running queue with its one pass is one as a floor needs it.
-use Rattle.std.proofs.Common.{◌≡◌, ℕ, ◌+◌, true, false, [], Option, Some, None, Ok, length, sym, subst, vec_capacity}
+use Rattle.std.proofs.Common.{◌≡◌, ℕ, ◌+◌, true, false, [], Option, Some, None, Ok, length, refl, sym, subst, vec_capacity}
 use Rattle.cqs_rule_laws.specs.declared.config.Place.{Place}
 use Rattle.cqs_rule.specs.declared.queue.tokens.Under.{Under as Token}
 use Rattle.cqs_rule.specs.declared.queue.tokens.Wait.{Wait}
@@ -12,6 +12,7 @@ use Rattle.cqs_semaphore.specs.declared.answers.CancelAnswer.TheVariants.{Cancel
 use Rattle.cqs_semaphore.specs.declared.answers.Permit.{Permit}
 use Rattle.cqs_semaphore.specs.declared.answers.Polled.TheVariants.{Granted, Pending}
 use Rattle.cqs_semaphore.specs.declared.answers.Released.TheVariants.{Freed, Sent}
+use Rattle.cqs_semaphore.proofs.PlainPasses.{plain-seen}
 use Rattle.cqs_semaphore.specs.Alone.{IsPlainAcquire, IsPlainCancel, IsPlainPoll, IsPlainRelease}
 use Rattle.cqs_semaphore.specs.Answers.{IsPolled}
 use Rattle.cqs_semaphore.specs.Answers.{Acquires as Got, Releases as Gave}
@@ -27,7 +28,7 @@ use Rattle.cqs_floor_alone_kinds.proofs.PassRests.{empty-found, first-found, lat
 use Rattle.cqs_floor_alone_kinds.proofs.QueueSends.{HasLeft}
 
 pub queue-lawful : IsLawful sole_queue
-queue-lawful = one-lawful semaphore_pass (λ x mine. mine.live.legal)
+queue-lawful = one-lawful semaphore_pass (λ x mine. plain-seen x.semaphore mine (λ s. refl) mine.live.legal)
 
 module _ (x y : QueueSole) (mine : IsMine y.semaphore y.pass)
     (capacity : vec_capacity y.permits ≡ vec_capacity x.permits) where

@@ -19,21 +19,45 @@ use Rattle.cqs_rule.specs.Passes.{pass_view}
 use Rattle.cqs_rule.specs.Seats.{HasMet}
 use Rattle.cqs_rule_laws.specs.CallRule.{IsReady}
 use Rattle.cqs_semaphore_client.specs.PlainHistories.{IsPlainHistory}
+use Rattle.cqs_semaphore.proofs.PlainPasses.{opens-alike, plain-seen}
 use Rattle.cqs_semaphore.specs.Calls.{IsMine}
 use Rattle.cqs_floor_shared.specs.Entries.{is_nothing, own_history}
 use Rattle.cqs_floor_shared_kinds.specs.declared.kinds.permits.SharedPermits.{SharedPermits}
+use Rattle.cqs_floor_shared_kinds.specs.Families.{queue_name}
 use Rattle.cqs_floor_shared_kinds.specs.PermitAccounts.{IsAccounted}
 use Rattle.cqs_floor_shared_kinds.specs.PermitRuns.{IsOfPermits}
 use Rattle.cqs_floor_shared_kinds.specs.Shares.{IsLawful, join_held, with_more}
 use Rattle.cqs_floor_shared_kinds.specs.ShareCalls.{CanTell, HoldNothing, Meets}
 use Rattle.cqs_floor_shared_kinds.specs.PermitShares.{ArePermits, HoldPermits, IsFunded, share_permits, total}
-use Rattle.cqs_floor_shared_kinds.proofs.Families.{name-same}
+use Rattle.cqs_floor_shared_kinds.proofs.Families.{name-same, name-tells}
 use Rattle.cqs_floor_shared_kinds.proofs.PermitAccounts.{account-both, rests}
 use Rattle.cqs_semaphore_client.specs.Semaphore.{semaphore_object}
 use Rattle.cqs_rule_laws.proofs.Places.{goes-met}
 use Rattle.cqs_floor_shared_kinds.proofs.Runs.{distinct-both, waits-next}
 use Rattle.cqs_floor_shared_kinds.proofs.PermitAnswers.{brought-is, history-of}
 use Rattle.cqs_floor_shared_kinds.proofs.HeldPermits.{more-total, permits-more}
+
+-- passes with one name for their queue are of one semaphore
+pub mine-by-name : (x given : SharedPermits) → queue_name given.pass ≡ queue_name x.pass
+    → IsMine (arc_value x.semaphore) x.pass → IsMine (arc_value given.semaphore) given.pass
+    → IsMine (arc_value x.semaphore) given.pass
+mine-by-name x given named mine theirs =
+    let told = name-tells x.pass given.pass named in
+    record {
+      table = told.4 ∙ mine.table;
+      slots = mine.slots;
+      passes = told.0 ∙ mine.passes;
+      limit = told.1 ∙ mine.limit;
+      cells = told.2 ∙ mine.cells;
+      mode = mine.mode;
+      ample = mine.ample;
+      live = theirs.live;
+      opening = theirs.opening ∙ opens-alike (arc_value given.semaphore) (arc_value x.semaphore)
+          (sym (ap (λ (o : Opening). o.size) theirs.opening)
+          ∙ (told.3 ∙ ap (λ (o : Opening). o.size) mine.opening));
+      looks = mine.looks;
+      alone = theirs.alone;
+    }
 
 -- what the jobs of both hold
 permits-both : (es fs : List ℕ) → ArePermits es → ArePermits fs → ArePermits (es ++ fs)
@@ -95,7 +119,7 @@ module _ (x given y : SharedPermits) (same_one : y.semaphore ≡ x.semaphore)
         coming = met.prefix_other;
         legal = history-of a.kind w.seen funded.sort
             (subst (λ n. IsPlainHistory n w.seen) (ap (λ (o : Opening). o.size) met.opening ∙ r.size_is)
-            mine.live.legal);
+            (plain-seen (arc_value x.semaphore) mine (λ s. refl) mine.live.legal));
         mine = λ n has. ap of_permits (met.mine n (subst (Has n) (sym r.numbers) has));
         theirs = λ n has. ap of_permits (met.theirs n (subst (Has n) (sym t.numbers) has));
         number = met.number;
@@ -149,7 +173,10 @@ permits-end x k n is can =
     let sized : v.opening.size ≡ size = r.size_is ∙ ap (λ j. size_of (Some j)) can.kind_is in
     let none = total-nothing can.a.held can.nothing in
     let stands =
-    rests size v.own v.seen (subst (λ m. IsPlainHistory m v.seen) sized can.funded.mine.live.legal) r.distinct
+    rests size v.own v.seen
+    (subst (λ m. IsPlainHistory m v.seen) sized
+    (plain-seen (arc_value x.semaphore) can.funded.mine (λ s. refl) can.funded.mine.live.legal))
+    r.distinct
     (λ m. known m (can.whole m))
     (subst (λ m. IsAccounted v.own v.seen m) (omega (arith, none, can.waitless, can.all_seen)) r.account) in
     (λ i. end.Permits ((is ∙ sym stands.free) i) (sym stands.held i) (length (sym stands.line i)))
@@ -171,7 +198,8 @@ permits-held (kind.Rounds parties rounds) sort = absurd sort
 pub permits-lawful : IsLawful share_permits
 permits-lawful = record {
   legal = λ x a funded. history-of a.kind _ funded.sort
-      (subst (λ n. IsPlainHistory n (pass_view x.pass).seen) funded.rests.size_is funded.mine.live.legal);
+      (subst (λ n. IsPlainHistory n (pass_view x.pass).seen) funded.rests.size_is
+      (plain-seen (arc_value x.semaphore) funded.mine (λ s. refl) funded.mine.live.legal));
   unnamed = λ x a funded n many. some-nothing _ (funded.mine.live.unnamed n many);
   held = λ x a funded. permits-held a.kind funded.sort;
   found = λ x a job funded there.

@@ -25,6 +25,7 @@ use Rattle.cqs_semaphore_client.specs.Semaphore.{semaphore_object}
 use Rattle.cqs_rule.specs.Waits.{place_of}
 use Rattle.cqs_rule_laws.proofs.Lists.{has_left, without_has}
 use Rattle.cqs_semaphore_client.specs.PlainHistories.{IsPlainHistory}
+use Rattle.cqs_semaphore.proofs.PlainPasses.{plain-opening, plain-seen}
 use Rattle.cqs_semaphore.specs.declared.answers.Acquired.TheVariants.{Now, Later}
 use Rattle.cqs_semaphore.specs.declared.answers.CancelAnswer.TheVariants.{Cancelled, TooLate}
 use Rattle.cqs_semaphore.specs.declared.answers.Permit.{Permit}
@@ -82,7 +83,7 @@ module _ (x y : SharedPermits) (same_one : y.semaphore ≡ x.semaphore)
         ∙ mine.live.unnamed n (subst (λ p. p ≤ n) (sym went.same.passes) many)));
     legal = history-of a.kind w.seen funded.sort
         (subst (λ n. IsPlainHistory n w.seen) (ap (λ (o : Opening). o.size) went.same.opening ∙ funded.rests.size_is)
-        went.legal);
+        (plain-seen (arc_value x.semaphore) mine (λ s. refl) went.legal));
     same = record {
       number = went.same.number;
       met = ap (λ (own : List ℕ). drop 1 own) went.same.own;
@@ -308,13 +309,14 @@ module _ (x y : SharedPermits) (same_one : y.semaphore ≡ x.semaphore)
       → Ends v (v.facts.has.held - 1) v.facts.waits (Left k) w → Gives share_permits job x (shared.Left 0 k) y
   gives-left job k rule ends =
       gives-back job (shared.Left 0 k) (λ size held waiting r. called _ [] size held waiting r rule) ends.1
-      (refl, left-unserved k w ends.0)
+      (refl, left-unserved k w (plain-opening (arc_value x.semaphore) mine (λ s. refl)) ends.0)
 
   pub gives-void : (job k : ℕ) → CallRule v (entry.GiveSent v.number ∷ []) [] w
       → Ends v (v.facts.has.held - 1) v.facts.waits (Void k) w → Gives share_permits job x (shared.Void k) y
   gives-void job k rule ends =
       gives-back job (shared.Void k) (λ size held waiting r. called _ [] size held waiting r rule) ends.1
-      (found-gone k w ends.0, void-unserved k w ends.0)
+      (let plain = plain-opening (arc_value x.semaphore) mine (λ s. refl) in
+      (found-gone k w plain ends.0, void-unserved k w plain ends.0))
 
   -- one that was handed back, and finished then
   pub gives-under : (job : ℕ) (answer : SharedGive) (under : token.Under) (u : View Entry (Unit {0}))

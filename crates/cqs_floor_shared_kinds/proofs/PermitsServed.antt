@@ -28,7 +28,9 @@ use Rattle.cqs_rule_laws.specs.Hidden.{state_at, state_in}
 use Rattle.cqs_semaphore.specs.Causes.{CellWas}
 use Rattle.cqs_semaphore_client.specs.PlainHistories.{IsPlainHistory, IsUnbroken}
 use Rattle.cqs_semaphore_client.specs.Semaphore.{core_shown}
-use Rattle.cqs_semaphore_client.specs.SemaphorePermits.{permits_of}
+use Rattle.cqs_semaphore_client.specs.SemaphoreMade.{permits_of, sync_of}
+use Rattle.cqs_core.proofs.EitherFacts.{plain-core}
+use Rattle.cqs_rule_laws.specs.declared.view.Opening.{Opening}
 use Rattle.cqs_semaphore_client.proofs.Unbroken.{unspoiled-before}
 use Rattle.cqs_floor_shared.specs.Entries.{HasGone, IsUnserved}
 use Rattle.cqs_floor_shared_kinds.proofs.Among.{Among, among-changed, among-placed, among-push, among-without, picked-of, placed-among, pushed-among}
@@ -302,27 +304,30 @@ module _ (s : Shape) (core : IsCore s) (unbroken : IsUnbroken s.history) (k : �
           absurd (no-wait k p.x.state p.x.owner _ p.y (state-of p.place p.x state.Refused p.at p.there is) p.picks)
 
 -- What a call found of the cell of a number in its last step.
-found-unserved : (c : CoreState) (k : ℕ) (w : View Entry (Unit {0})) → IsUnfilled c → CellWas c k [] w
-    → IsUnserved (of_permits w.seen) k
-found-unserved c k w unfilled cell e stands =
+found-unserved : (c : CoreState) (k : ℕ) (w : View Entry (Unit {0})) → w.opening.sync ≡ false → IsUnfilled c
+    → CellWas c k [] w → IsUnserved (of_permits w.seen) k
+found-unserved c k w plain unfilled cell e stands =
     let shown = cell.was.was in
-    core-unserved (core_shown (permits_of shown.client) shown.hidden shown.words cell.was.before) shown.shown.core
-    shown.shown.unbroken k c unfilled shown.holds.0
+    let s = core_shown (sync_of shown.client) (permits_of shown.client) shown.hidden shown.words cell.was.before in
+    let unsync : sync_of shown.client ≡ false = ap (λ (o : Opening). o.sync) shown.opening_is ∙ plain in
+    core-unserved s (plain-core s shown.shown.core unsync) (shown.shown.unbroken unsync) k c unfilled shown.holds.0
     (subst (λ h. IsIn (entry.Deliver k) h) (cell.was.seen ∙ append-nil cell.was.before) stands)
 
-pub found-gone : (k : ℕ) (w : View Entry (Unit {0})) → CellWas state.Refused k [] w → HasGone (of_permits w.seen) k
-found-gone k w cell =
+pub found-gone : (k : ℕ) (w : View Entry (Unit {0})) → w.opening.sync ≡ false → CellWas state.Refused k [] w
+    → HasGone (of_permits w.seen) k
+found-gone k w plain cell =
     let shown = cell.was.was in
+    let s = core_shown (sync_of shown.client) (permits_of shown.client) shown.hidden shown.words cell.was.before in
+    let unsync : sync_of shown.client ≡ false = ap (λ (o : Opening). o.sync) shown.opening_is ∙ plain in
     subst (λ h. Left k h) (sym (cell.was.seen ∙ append-nil cell.was.before))
-    (core-gone (core_shown (permits_of shown.client) shown.hidden shown.words cell.was.before) shown.shown.core
-    shown.shown.unbroken k shown.holds.0)
+    (core-gone s (plain-core s shown.shown.core unsync) (shown.shown.unbroken unsync) k shown.holds.0)
 
 -- the same by how a resumption ended
-pub left-unserved : (k : ℕ) (w : View Entry (Unit {0})) → CellWas state.Empty k [] w ⊎ CellWas state.Cancelling k [] w
-    → IsUnserved (of_permits w.seen) k
-left-unserved k w (inl cell) = found-unserved state.Empty k w (inl refl) cell
-left-unserved k w (inr cell) = found-unserved state.Cancelling k w (inr (inl refl)) cell
+pub left-unserved : (k : ℕ) (w : View Entry (Unit {0})) → w.opening.sync ≡ false
+    → CellWas state.Empty k [] w ⊎ CellWas state.Cancelling k [] w → IsUnserved (of_permits w.seen) k
+left-unserved k w plain (inl cell) = found-unserved state.Empty k w plain (inl refl) cell
+left-unserved k w plain (inr cell) = found-unserved state.Cancelling k w plain (inr (inl refl)) cell
 
-pub void-unserved : (k : ℕ) (w : View Entry (Unit {0})) → CellWas state.Refused k [] w
+pub void-unserved : (k : ℕ) (w : View Entry (Unit {0})) → w.opening.sync ≡ false → CellWas state.Refused k [] w
     → IsUnserved (of_permits w.seen) k
-void-unserved k w cell = found-unserved state.Refused k w (inr (inr refl)) cell
+void-unserved k w plain cell = found-unserved state.Refused k w plain (inr (inr refl)) cell

@@ -19,7 +19,7 @@ use Rattle.cqs_rule_laws.specs.Lists.{Has, IsPrefix}
 use Rattle.cqs_rule_laws.specs.Saw.{Saw}
 use Rattle.cqs_rule_laws.specs.SegmentSteps.{facts_left}
 use Rattle.cqs_rule.specs.Claims.{Claimed, Crowds, HasSpares}
-use Rattle.cqs_semaphore_client.specs.PlainHistories.{IsPlainHistory}
+use Rattle.cqs_semaphore_client.specs.SemaphoreHistories.{IsLawful}
 use Rattle.cqs_semaphore_client.specs.Semaphore.{semaphore_object, takes_one}
 use Rattle.cqs_semaphore_client.specs.SemaphoreSteps.{NextIs, OnState}
 use Rattle.cqs_rule.specs.Waits.{place_of}
@@ -33,7 +33,8 @@ use Rattle.cqs_suspend.proofs.Sat.{sat-taken, sat-installed}
 use Rattle.cqs_words.specs.State.{count_in, is_above_zero}
 use Rattle.cqs_semaphore.specs.Answers.{facts_below, IsBelow, IsCrowded, WasFree, WasNone, Takes, Acquires}
 use Rattle.cqs_semaphore.specs.Calls.{CallRule}
-use Rattle.cqs_semaphore.specs.Causes.{primitive_of, drawn_in, StateWas, state_after}
+use Rattle.cqs_semaphore.specs.Causes.{drawn_in, StateWas, state_after}
+use Rattle.cqs_semaphore_client.specs.SemaphoreMade.{primitive_of}
 use Rattle.cqs_semaphore.specs.Entries.{took_entries, came_by, acquired_entries, acquired_further}
 use Rattle.cqs_semaphore.specs.Steps.{WaitsInLine}
 use Rattle.cqs_semaphore.specs.declared.answers.Acquired.{Acquired}
@@ -229,7 +230,7 @@ module _ {T : Type 0} where
   }
 
   pub waits-called : (v x w : View Entry T) (a : Acquired) → Came false v x → WaitsInLine x a w
-      → Has v.number v.own → IsPlainHistory w.opening.size w.seen
+      → Has v.number v.own → IsLawful w.opening.sync w.opening.size w.seen
       → CallRule v (acquired_entries v.number (Ok a)) (acquired_further (Ok a)) w
   waits-called v x w (Now permit) c e own legal =
       let k = e.0 in

@@ -26,7 +26,7 @@ use Rattle.cqs_core.specs.SemaphoreObject.{Semaphore, due, early, opening}
 use Rattle.cqs_core.specs.SemaphoreShown.{IsCore}
 use Rattle.cqs_core.specs.SemaphoreTable.{Shape}
 use Rattle.cqs_core.specs.SoleCaller.{tells, sole_call, sole_release, sole_poll, sole_cancel}
-use Rattle.cqs_core.proofs.CoreFacts.{shows-object}
+use Rattle.cqs_core.proofs.EitherFacts.{plain-core, shows-object}
 use Rattle.cqs_core.proofs.LineReads.{line-keyed}
 use Rattle.cqs_core.proofs.Places.{get-append_left, get-push_at, get-below}
 use Rattle.cqs_core.proofs.Quiet.{nobody-at_door, behind, none-going}
@@ -37,7 +37,7 @@ use Rattle.cqs_rule_laws.specs.declared.view.Opening.{Opening}
 use Rattle.cqs_rule_laws.specs.Alone.{IsAlone, TellsAlone}
 use Rattle.cqs_rule_laws.specs.Hidden.{state_in}
 use Rattle.cqs_semaphore_client.specs.Semaphore.{core_shown}
-use Rattle.cqs_semaphore_client.specs.SemaphorePermits.{permits_of}
+use Rattle.cqs_semaphore_client.specs.SemaphoreMade.{permits_of, sync_of}
 use Rattle.cqs_rule.specs.Waits.{place_of}
 use Rattle.cqs_semaphore.specs.declared.answers.Acquired.{Acquired}
 use Rattle.cqs_semaphore.specs.declared.answers.Acquired.TheVariants.{Now, Later}
@@ -46,7 +46,8 @@ use Rattle.cqs_semaphore.specs.declared.answers.Released.TheVariants.{Freed, Sen
 use Rattle.cqs_semaphore.specs.Alone.{IsPlainAcquire, IsPlainRelease, IsPlainEnd, IsTurnedBack, IsFirstOf, HasLine, HasNoneOnWay}
 use Rattle.cqs_semaphore.specs.Answers.{Releases, Ends}
 use Rattle.cqs_semaphore.specs.Calls.{CallRule, plain_after}
-use Rattle.cqs_semaphore.specs.Causes.{primitive_of, CellWas}
+use Rattle.cqs_semaphore.specs.Causes.{CellWas}
+use Rattle.cqs_semaphore_client.specs.SemaphoreMade.{primitive_of}
 use Rattle.cqs_semaphore.specs.Entries.{took_entries, came_by, acquired_entries, acquired_further, gave_entries, resumed_further, passed_further}
 use Rattle.cqs_semaphore.specs.Permits.{number_of}
 use Rattle.cqs_semaphore.proofs.States.{entered-way}
@@ -130,15 +131,16 @@ none-after_leave o c k none = by (nat_lt (due l) l.way)
     by false = none
 
 module _ {T : Type 0} where
-  quiet-alone : (v : View Entry T) → IsAlone primitive_of v → v.facts.doing ≡ doing.Idle → IsQuiet (plain_after v)
-  quiet-alone v a idle =
-      let s : Shape = core_shown (permits_of a.client) a.hidden a.words v.seen in
-      let core : IsCore s = a.shown.core in
+  quiet-alone : (v : View Entry T) → v.opening.sync ≡ false → IsAlone primitive_of v → v.facts.doing ≡ doing.Idle
+      → IsQuiet (plain_after v)
+  quiet-alone v plain a idle =
+      let s : Shape = core_shown (sync_of a.client) (permits_of a.client) a.hidden a.words v.seen in
+      let core : IsCore s = plain-core s a.shown.core (ap (λ (o : Opening). o.sync) a.opening_is ∙ plain) in
       let q = a.hidden.queue in
       let rests : IsIdle q.doing = record { at = λ p d there. idle-at p d there } in
       let same : object_after (permits_of a.client) v.seen ≡ plain_after v =
       ap (λ (o : Opening). object_after o.size v.seen) a.opening_is in
-      let shows = shows-object s core in
+      let shows = shows-object s a.shown.core in
       let within = behind q core.sound rests _ core.short in
       let still = none-going q core.sound rests within in
       let on_way = shows.way in
@@ -156,10 +158,10 @@ module _ {T : Type 0} where
           let r = a.others p other (omega arith) in
           same_Some d doing.Idle (sym there ∙ (r.stands.doing ∙ ap Some r.idle)))
 
-  pub quiet : (v : View Entry T) → TellsAlone primitive_of v → v.weight ≡ 1 → v.alone ≡ true
+  pub quiet : (v : View Entry T) → v.opening.sync ≡ false → TellsAlone primitive_of v → v.weight ≡ 1 → v.alone ≡ true
       → v.facts.doing ≡ doing.Idle
       → IsQuiet (plain_after v)
-  quiet v tells_it one alone idle = quiet-alone v (tells_it one alone) idle
+  quiet v plain tells_it one alone idle = quiet-alone v plain (tells_it one alone) idle
 
   -- all that a pass has seen after a call that it made alone
   record Legal (v : View Entry T) (entries : List Entry) (w : View Entry T) : Type 0 where
@@ -353,7 +355,7 @@ module _ {T : Type 0} where
       → find_wait k (plain_after v).line ≡ None
   out-of_line v w k e l c =
       let was = c.was.was in
-      let s : Shape = core_shown (permits_of was.client) was.hidden was.words c.was.before in
+      let s : Shape = core_shown (sync_of was.client) (permits_of was.client) was.hidden was.words c.was.before in
       let here : c.was.before ≡ v.seen = append_cancel_right c.was.before v.seen (e ∷ []) (sym c.was.seen ∙ l.seen) in
       let opens : (primitive_of was.client).opening ≡ v.opening = was.opening_is ∙ l.opening_is in
       let same : object_after (permits_of was.client) c.was.before ≡ plain_after v =

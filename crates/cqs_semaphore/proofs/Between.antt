@@ -15,7 +15,7 @@ owing-at : (ticket : Option ℕ) → is_owing (owes_at ticket) ≡ true
 owing-at None = refl
 owing-at (Some k) = refl
 
-under-between : (f : Facts) (under : token.Under) → HasUnder f under → IsBetween f
+pub under-between : (f : Facts) (under : token.Under) → HasUnder f under → IsBetween f
 under-between f under has = inr (ap is_owing has.owes.doing ∙ owing-at under.ticket)
 
 module _ {T : Type 0} where

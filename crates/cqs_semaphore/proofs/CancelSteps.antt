@@ -7,7 +7,7 @@ use Rattle.cqs_core.specs.declared.entries.Entry.TheVariants as entry
 use Rattle.cqs_core.specs.SemaphoreEntries.{object_after}
 use Rattle.cqs_core.specs.SemaphoreShown.{state_of}
 use Rattle.cqs_core.specs.QueueSteps.{settles_owing}
-use Rattle.cqs_core.proofs.CoreFacts.{shows-object}
+use Rattle.cqs_core.proofs.EitherFacts.{shows-object}
 use Rattle.cqs_rule.specs.declared.queue.tokens.Under.{Under}
 use Rattle.cqs_rule_laws.specs.declared.view.Facts.{Facts}
 use Rattle.cqs_rule_laws.specs.declared.view.Opening.{Opening}
@@ -19,9 +19,9 @@ use Rattle.cqs_rule_laws.specs.Events.{HasWord}
 use Rattle.cqs_rule_laws.specs.Lists.{Has, without}
 use Rattle.cqs_rule_laws.specs.Ruled.{number_at}
 use Rattle.cqs_rule_laws.specs.Saw.{WasShown}
-use Rattle.cqs_semaphore_client.specs.PlainHistories.{IsPlainHistory}
+use Rattle.cqs_semaphore_client.specs.SemaphoreHistories.{IsLawful}
 use Rattle.cqs_semaphore_client.specs.Semaphore.{semaphore_object, decides, core_shown}
-use Rattle.cqs_semaphore_client.specs.SemaphorePermits.{permits_of}
+use Rattle.cqs_semaphore_client.specs.SemaphoreMade.{permits_of, sync_of}
 use Rattle.cqs_rule_laws.proofs.Calls.{called-and}
 use Rattle.cqs_rule_laws.proofs.Causes.{Onward, once-later}
 use Rattle.cqs_rule_laws.proofs.Rules.{call-rule, call-rule_own}
@@ -33,7 +33,8 @@ use Rattle.cqs_semaphore.specs.declared.answers.CancelAnswer.TheVariants.{Cancel
 use Rattle.cqs_semaphore.specs.declared.answers.Permit.{Permit}
 use Rattle.cqs_semaphore.specs.declared.answers.Released.{Released}
 use Rattle.cqs_semaphore.specs.Answers.{Ends, LeftLine, WasRefused, WentSo}
-use Rattle.cqs_semaphore.specs.Causes.{primitive_of, CellWas, StateWas}
+use Rattle.cqs_semaphore.specs.Causes.{CellWas, CellWasOnce, StateWas}
+use Rattle.cqs_semaphore_client.specs.SemaphoreMade.{primitive_of}
 use Rattle.cqs_semaphore.specs.Entries.{resumed_further}
 use Rattle.cqs_semaphore.specs.Permits.{number_of}
 use Rattle.cqs_semaphore.specs.Steps.{HasCancelled, HasEnded, PassedOn, as_released}
@@ -71,7 +72,8 @@ module _ {T : Type 0} where
       → WasShown {S = T} primitive_of opening (HasWord 0 n) history
       → count_in n ≡ state_of (object_after opening.size history)
   state-at opening n history was =
-      let shows = shows-object (core_shown (permits_of was.client) was.hidden was.words history) was.shown.core in
+      let s = core_shown (sync_of was.client) (permits_of was.client) was.hidden was.words history in
+      let shows = shows-object s was.shown.core in
       ap count_in (sym was.holds)
       ∙ (shows.state ∙ ap (λ (o : Opening). state_of (object_after o.size history)) was.opening_is)
 
@@ -121,7 +123,8 @@ module _ {T : Type 0} where
     found = state-later v u w l.count l.before (entry.Leave v.number k ∷ []) l.found on.seen on.found on.opening;
   }
 
-  pub gone : (k : ℕ) (v w : View Entry T) → IsReady v.facts → Has v.number v.own → IsPlainHistory w.opening.size w.seen
+  pub gone : (k : ℕ) (v w : View Entry T) → IsReady v.facts → Has v.number v.own
+      → IsLawful w.opening.sync w.opening.size w.seen
       → cancel.Cancels semaphore_object primitive_of asked_so k v Gone w → HasCancelled k v (Cancelled None) w
   gone k v w ready own legal b =
       let o = out-gone semaphore_object primitive_of 0 decides left_entries asks k b.word v w b.ends in (
@@ -142,7 +145,7 @@ module _ {T : Type 0} where
       )
 
   pub gone-owing : (k payload : ℕ) (v u w : View Entry T) (under : Option Under) → IsReady v.facts → Has v.number v.own
-      → IsPlainHistory w.opening.size w.seen
+      → IsLawful w.opening.sync w.opening.size w.seen
       → cancel.Cancels semaphore_object primitive_of asked_so k v (GoneOwing payload) u
       → PassedOn payload u under w → HasCancelled k v (Cancelled under) w
   gone-owing k payload v u w under ready own legal b p =
@@ -180,8 +183,15 @@ module _ {T : Type 0} where
         ),
       )
 
+  -- what was left to the canceller lay in its cell
+  pub owed-delegated : (k payload : ℕ) (v u : View Entry T)
+      → cancel.Cancels semaphore_object primitive_of asked_so k v (GoneOwing payload) u
+      → CellWasOnce state.Delegated k v u
+  owed-delegated k payload v u b =
+      (out-owing semaphore_object primitive_of 0 decides left_entries asks k b.word payload v u b.ends.0).1
+
   pub late : (k payload : ℕ) (v w : View Entry T) (permit : Permit) → IsReady v.facts → Has v.number v.own
-      → IsPlainHistory w.opening.size w.seen
+      → IsLawful w.opening.sync w.opening.size w.seen
       → cancel.Cancels semaphore_object primitive_of asked_so k v (Late payload) w
       → number_of permit ≡ Some k → HasCancelled k v (TooLate permit) w
   late k payload v w permit ready own legal l number = (

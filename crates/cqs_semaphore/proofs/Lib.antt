@@ -7,3 +7,4 @@ pub mod ReleaseSteps
 pub mod CancelSteps
 pub mod AloneSteps
 pub mod Between
+pub mod PlainPasses

@@ -16,7 +16,7 @@ use Rattle.cqs_rule_laws.specs.Layout.{client_place}
 use Rattle.cqs_rule_laws.specs.Lists.{Has}
 use Rattle.cqs_rule_laws.specs.Saw.{Saw}
 use Rattle.cqs_rule_laws.specs.SegmentSteps.{facts_left}
-use Rattle.cqs_semaphore_client.specs.PlainHistories.{IsPlainHistory}
+use Rattle.cqs_semaphore_client.specs.SemaphoreHistories.{IsLawful}
 use Rattle.cqs_semaphore_client.specs.Semaphore.{semaphore_object, gives_one}
 use Rattle.cqs_semaphore_client.specs.SemaphoreSteps.{OnState}
 use Rattle.cqs_rule_laws.proofs.Calls.{called-by, called-and, saw-then}
@@ -95,7 +95,7 @@ module _ {T : Type 0} where
         spare = spares-stay 1 t u o.saw.same (ap (λ (f : Facts). f.spare_slots) o.saw.facts_are) claimed.enough;
       })
 
-  follows-give : (b : Bool) (n : ℕ) (v u : View Entry T) → GaveBy b n v u → Follows v u
+  pub follows-give : (b : Bool) (n : ℕ) (v u : View Entry T) → GaveBy b n v u → Follows v u
   follows-give b n v u g = record {
     same = g.saw.same;
     passed = ap (λ (f : Facts). f.passed) g.saw.facts_are;
@@ -107,7 +107,7 @@ module _ {T : Type 0} where
       → Called semaphore_object v (given_by b v.number) (given_by b v.number) u
   gave-called b v u n g = called-by semaphore_object v u _ _ g.saw
 
-  gave-found : (b : Bool) (v u : View Entry T) (n : ℕ) (g : GaveBy b n v u)
+  pub gave-found : (b : Bool) (v u : View Entry T) (n : ℕ) (g : GaveBy b n v u)
       → StateWas v (count_in n) g.before (given_by b v.number) u
   gave-found b v u n g =
       state-was v v u u _ _ g.before n [] (prefix-same v.seen) g.saw g.seen g.state
@@ -181,7 +181,8 @@ module _ {T : Type 0} where
       (subst (λ z. HasEnded ticket payload u z w) e.1 e))
 
   pub released-rule : (v u w : View Entry T) (n : ℕ) (ticket : Option ℕ) (payload : ℕ) (a : Released)
-      → GaveBy true n v u → HasEnded ticket payload u a w → Has v.number v.own → IsPlainHistory w.opening.size w.seen
+      → GaveBy true n v u → HasEnded ticket payload u a w → Has v.number v.own
+      → IsLawful w.opening.sync w.opening.size w.seen
       → CallRule v (gave_entries v.number a) (resumed_further a) w
   released-rule v u w n ticket payload a g e own legal =
       let r = as_released e.0 in
@@ -194,7 +195,7 @@ module _ {T : Type 0} where
 
   -- the end of one that was handed back
   pub ends-rule : (v w : View Entry T) (ticket : Option ℕ) (payload : ℕ) (a : Released) → HasEnded ticket payload v a w
-      → Has v.number v.own → IsPlainHistory w.opening.size w.seen → CallRule v [] (resumed_further a) w
+      → Has v.number v.own → IsLawful w.opening.sync w.opening.size w.seen → CallRule v [] (resumed_further a) w
   ends-rule v w ticket payload a e own legal =
       let r = as_released e.0 in
       subst (λ z. CallRule v [] (resumed_further z) w) (sym e.1)

@@ -26,7 +26,7 @@ use Rattle.cqs_rule_laws.specs.Client.{IsQuiet}
 use Rattle.cqs_resume.proofs.Ends.{EndedAt, HeldOn, ended-at, held-on, handed-back, drawn-few}
 use Rattle.cqs_semaphore.specs.Answers.{Ends, HandsBack, most_passed_over}
 use Rattle.cqs_semaphore.specs.Calls.{Rests}
-use Rattle.cqs_semaphore.specs.Causes.{primitive_of}
+use Rattle.cqs_semaphore_client.specs.SemaphoreMade.{primitive_of}
 use Rattle.cqs_semaphore.specs.declared.answers.Released.{Released}
 use Rattle.cqs_semaphore.specs.Entries.{resumed_further}
 use Rattle.cqs_semaphore.specs.Steps.{as_released, HasDrawnPast, IsFurther}

@@ -130,6 +130,10 @@ module _ {T : Type 0} where
       }
 
   -- the state was loaded, and that was all of the call
+  pub state-is : (v w : View Entry T) (n : ℕ) → OnState silent in_any_case v n w → count_in n ≡ state_after w w.seen
+  state-is v w n o =
+      o.state ∙ ap (λ l. state_of (object_after w.opening.size l)) (sym (append-nil o.before) ∙ sym o.seen)
+
   pub state-loaded : (v w : View Entry T) (n : ℕ) → OnState silent in_any_case v n w
       → StateWas v (state_after w w.seen) w.seen [] w
   state-loaded v w n o = record {
@@ -137,8 +141,7 @@ module _ {T : Type 0} where
     seen = ([], sym (append-nil (w.seen ++ []) ∙ append-nil w.seen));
     state = refl;
     word = n;
-    count_is = sym (o.state
-        ∙ ap (λ l. state_of (object_after w.opening.size l)) (sym (append-nil o.before) ∙ sym o.seen));
+    count_is = sym (state-is v w n o);
     found = ([], [], ap (λ (f : Facts). f.found) o.saw.facts_are);
   }
 
@@ -146,8 +149,7 @@ module _ {T : Type 0} where
       → FoundJust (state_after w w.seen ∷ []) v w
   state-once v w n o = record {
     words = n ∷ [];
-    are = ap (λ z. z ∷ []) (sym (o.state
-        ∙ ap (λ l. state_of (object_after w.opening.size l)) (sym (append-nil o.before) ∙ sym o.seen)));
+    are = ap (λ z. z ∷ []) (sym (state-is v w n o));
     found = ap (λ (f : Facts). f.found) o.saw.facts_are;
   }
 

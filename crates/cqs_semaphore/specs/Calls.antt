@@ -10,7 +10,7 @@ use Rattle.cqs_rule_laws.specs.declared.view.View.{View}
 use Rattle.cqs_rule_laws.specs.CallRule as laws
 use Rattle.cqs_rule.specs.Passes.{client_of, IsOf}
 use Rattle.cqs_semaphore_client.specs.Semaphore.{semaphore_object}
-use Rattle.cqs_semaphore_client.specs.SemaphorePermits.{permits_of}
+use Rattle.cqs_semaphore_client.specs.SemaphoreMade.{permits_of}
 use Rattle.cqs_semaphore.specs.declared.semaphore.Semaphore.{Semaphore}
 
 module _ {T : Type 0} where

@@ -5,16 +5,13 @@ use Rattle.cqs_core.specs.declared.entries.Entry.{Entry}
 use Rattle.cqs_core.specs.declared.entries.Entry.TheVariants as entry
 use Rattle.cqs_core.specs.SemaphoreEntries.{object_after}
 use Rattle.cqs_core.specs.SemaphoreShown.{state_of}
-use Rattle.cqs_semaphore_client.specs.declared.semaphore.SemClient.{SemClient}
 use Rattle.cqs_rule_laws.specs.declared.view.Sighting.{Sighting}
 use Rattle.cqs_rule_laws.specs.declared.view.Sighting.TheVariants.{Word}
 use Rattle.cqs_rule_laws.specs.declared.view.View.{View}
 use Rattle.cqs_rule_laws.specs.Causes as laws
 use Rattle.cqs_rule_laws.specs.Layout.{client_place}
 use Rattle.cqs_rule_laws.specs.Lists.{IsPrefix}
-use Rattle.cqs_rule_laws.specs.Object.{Primitive}
-use Rattle.cqs_semaphore_client.specs.Semaphore.{semaphore_primitive}
-use Rattle.cqs_semaphore_client.specs.SemaphorePermits.{permits_of}
+use Rattle.cqs_semaphore_client.specs.SemaphoreMade.{primitive_of}
 use Rattle.cqs_words.specs.State.{count_in}
 
 -- a caller drew a number, and came to the end of the line
@@ -39,9 +36,6 @@ abbrev pub drawn_in : List Entry → ℕ
 drawn_in history = count_by is_enter history
 
 module _ {T : Type 0} where
-  abbrev pub primitive_of : SemClient T → Primitive Entry T
-  primitive_of x = semaphore_primitive (permits_of x)
-
   -- the state of the plain semaphore after a history
   abbrev pub state_after : View Entry T → List Entry → ℤ
   state_after v history = state_of (object_after v.opening.size history)
@@ -68,7 +62,7 @@ module _ {T : Type 0} where
 
   -- a step of the call found the cell of the number k in this state: its last step, or any
   abbrev pub CellWas : CoreState → ℕ → List Entry → View Entry T → Type 0
-  CellWas state k own w = laws.CellWas primitive_of state k own w
+  CellWas state k own w = laws.CellWas (primitive_of {T = T}) state k own w
 
   abbrev pub CellWasOnce : CoreState → ℕ → View Entry T → View Entry T → Type 0
-  CellWasOnce state k v w = laws.CellWasOnce primitive_of state k v w
+  CellWasOnce state k v w = laws.CellWasOnce (primitive_of {T = T}) state k v w

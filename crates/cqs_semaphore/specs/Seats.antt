@@ -4,7 +4,7 @@ use Rattle.cqs_rule_laws.specs.declared.view.View.{View}
 use Rattle.cqs_rule_laws.specs.Alone.{IsAlone}
 use Rattle.cqs_rule_laws.specs.CallRule as laws
 use Rattle.cqs_semaphore_client.specs.Semaphore.{semaphore_object}
-use Rattle.cqs_semaphore.specs.Causes.{primitive_of}
+use Rattle.cqs_semaphore_client.specs.SemaphoreMade.{primitive_of}
 
 module _ {T : Type 0} where
   -- the pass has seen more, done nothing, and is at what it was

@@ -18,7 +18,7 @@ use Rattle.cqs_semaphore.specs.declared.answers.Released.TheVariants.{Freed, Sen
 use Rattle.cqs_semaphore.specs.declared.answers.CancelAnswer.{CancelAnswer}
 use Rattle.cqs_semaphore.specs.Answers.{Cancels, most_passed_over}
 use Rattle.cqs_semaphore.specs.Calls.{CallRule}
-use Rattle.cqs_semaphore.specs.Causes.{primitive_of}
+use Rattle.cqs_semaphore_client.specs.SemaphoreMade.{primitive_of}
 use Rattle.cqs_semaphore.specs.Entries.{cancelled_entries, passed_further}
 use Rattle.cqs_semaphore.specs.Owed.{owed_after}
 use Rattle.cqs_semaphore.specs.Permits.{number_of}

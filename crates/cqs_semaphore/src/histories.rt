@@ -8,6 +8,7 @@ ghost use Rattle.cqs_rule_laws.specs.Crew.{MadeNone};
 ghost use Rattle.cqs_semaphore.specs.Calls.{IsMine};
 ghost use Rattle.cqs_semaphore.specs.Histories.{CallHasItsPlace, CallsStandInOrder};
 ghost use Rattle.cqs_semaphore.specs.Seats.{LookedOn};
+ghost use Rattle.cqs_semaphore_client.specs.PlainHistories.{IsPlainHistory};
 
 use crate::semaphore::{SemPass, Semaphore};
 use cqs_rule::Carries;
@@ -38,4 +39,11 @@ impl<T: Carries + Send> Semaphore<T> {
 pub fn calls_stand_in_one_history<T: Carries + Send>(_pass: &SemPass<T>)
     ensures each { CallHasItsPlace (pass_view _pass.now) }
     ensures all { CallsStandInOrder (pass_view _pass.now) }
+{}
+
+/// The law of such a semaphore: what a pass has seen is a legal history of the plain semaphore in
+/// which no number is broken, since its resumes leave no value that they watch.
+pub fn no_number_is_broken<T: Carries + Send>(_semaphore: &Semaphore<T>, _pass: &SemPass<T>)
+    requires belongs { IsMine _semaphore.now _pass.now }
+    ensures { IsPlainHistory (pass_view _pass.now).opening.size (pass_view _pass.now).seen }
 {}

@@ -22,6 +22,9 @@
 //! address would have it lie in memory also where that call isn't made. What was handed back is
 //! finished apart, with the pass by value. `split`, `meet`, `sole` and `state` are calls like any
 //! others.
+//!
+//! What a synchronous semaphore does just so is a function over the queue of either kind, for the
+//! crate of that semaphore: `try_permit`, `poll_wait`, `state_now`.
 #![tactic(auto)]
 
 mod acquiring;
@@ -33,9 +36,14 @@ mod polling;
 mod releasing;
 mod seats;
 mod semaphore;
+mod state;
 mod threads;
 mod trying;
 
 pub use answers::{Acquired, CancelAnswer, Permit, Polled, Released, Tried};
-pub use histories::calls_stand_in_one_history;
+pub use histories::{calls_stand_in_one_history, no_number_is_broken};
+pub use polling::poll_wait;
+pub use releasing::permit_by;
 pub use semaphore::{SemPass, Semaphore};
+pub use state::state_now;
+pub use trying::try_permit;

@@ -93,11 +93,11 @@ impl<T: Carries + Send> Semaphore<T> {
 
     /// A token of a permit that the pass holds, for a caller who counts its permits and keeps no
     /// tokens of them. It makes no step.
-    pub fn permit_of(&self, _pass: &SemPass<T>) -> Permit
-        requires holds { 0 < (pass_view _pass.now).facts.has.held }
+    pub fn permit_of(&self, pass: &SemPass<T>) -> Permit
+        requires holds { 0 < (pass_view pass.now).facts.has.held }
         ensures { number_of result ≡ None }
     {
-        Permit { number: None }
+        permit_by(pass, None)
     }
 
     // Resumes for a permit that was sent to the line.
@@ -111,6 +111,15 @@ impl<T: Carries + Send> Semaphore<T> {
     {
         release_after(resume(&self.queue, pass, 0))
     }
+}
+
+/// A token of a permit that the pass holds, with the number of the wait by which it came, for a
+/// semaphore that is made of these parts. It makes no step.
+pub fn permit_by<T: Carries>(_pass: &SemPass<T>, number: Option<u64>) -> Permit
+    requires holds { 0 < (pass_view _pass.now).facts.has.held }
+    ensures { number_of result ≡ number }
+{
+    Permit { number }
 }
 
 // What the end of a resumption means for the permit.

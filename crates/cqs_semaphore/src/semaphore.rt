@@ -4,14 +4,15 @@ ghost use Rattle.std.specs.Prelude.{◌≡◌, ◌⊎◌, ◌<◌, ◌≤◌, []
 ghost use mathlib.Core.Logic.{◌↔◌};
 ghost use Rattle.cqs_core.specs.SemaphoreShown.{state_of};
 ghost use Rattle.cqs_rule_laws.specs.Configured.{is_config, is_small_config};
-ghost use Rattle.cqs_rule.specs.Passes.{ample_of, pass_view, passes_of, limit_of};
+ghost use Rattle.cqs_rule.specs.Passes.{ample_of, client_of, pass_view, passes_of, limit_of};
+ghost use Rattle.cqs_semaphore_client.specs.SemaphoreMade.{looks_of, sync_of};
 ghost use Rattle.cqs_rule_laws.specs.Views.{first_view};
 ghost use Rattle.cqs_rule_laws.specs.declared.config.CancelMode.TheVariants.{Smart};
 ghost use Rattle.cqs_rule_laws.specs.CallRule.{IsReady};
 
+use crate::state::state_now;
 use cqs_rule::{CancelMode, Carries, Config, MakeError, Pass, Queue, Unparked};
-use cqs_semaphore_client::{SemClient, read_state};
-use cqs_words::StateWord;
+use cqs_semaphore_client::SemClient;
 use std::alloc::Global;
 
 /// What a caller makes its calls with.
@@ -20,10 +21,13 @@ pub type SemPass<T = ()> = Pass<SemClient<T>>;
 /// The most permits that a semaphore may be made with.
 const MOST_PERMITS: u32 = 1_048_576;
 
-/// A fair semaphore. Its permits carry what `T` says: a value in a slot, or nothing.
+/// A fair semaphore. Its permits carry what `T` says: a value in a slot, or nothing. It isn't
+/// synchronous.
 #[derive(Drop)]
 pub struct Semaphore<T: Carries = ()> {
     pub(crate) queue: Queue<SemClient<T>>,
+    ghost plain: { sync_of (client_of queue) ≡ false },
+    ghost unlooked: { looks_of (client_of queue) ≡ 0 },
 }
 
 impl Semaphore {
@@ -138,7 +142,7 @@ impl<T: Carries + Send> Semaphore<T> {
         ensures rests { Rests (pass_view pass.old) (pass_view pass.old).facts.has.held
             (pass_view pass.old).facts.waits (pass_view pass.new) }
     {
-        StateWord::read(read_state(&self.queue, pass).word).value
+        state_now(&self.queue, pass)
     }
 
     /// The queue that the semaphore stands on.

@@ -1,7 +1,7 @@
 //! The try.
 
 ghost use Rattle.std.specs.Prelude.{◌≡◌, [], true};
-ghost use Rattle.cqs_rule.specs.Passes.{pass_view};
+ghost use Rattle.cqs_rule.specs.Passes.{pass_view, IsOf};
 ghost use Rattle.cqs_semaphore.specs.Alone.{IsPlainTry};
 ghost use Rattle.cqs_semaphore.specs.Answers.{Tries};
 ghost use Rattle.cqs_rule_laws.specs.CallRule.{IsReady};
@@ -12,8 +12,8 @@ ghost use Rattle.cqs_semaphore.specs.Entries.{tried_entries};
 
 use crate::answers::{Permit, Tried};
 use crate::semaphore::{SemPass, Semaphore};
-use cqs_rule::Carries;
-use cqs_semaphore_client::{load_state, try_take};
+use cqs_rule::{Carries, Queue};
+use cqs_semaphore_client::{SemClient, load_state, try_take};
 use cqs_words::{PackedState, StateWord};
 
 impl<T: Carries + Send> Semaphore<T> {
@@ -30,16 +30,31 @@ impl<T: Carries + Send> Semaphore<T> {
         ensures alone { (pass_view pass.old).alone ≡ true
             → IsPlainTry (pass_view pass.old) result }
     {
-        let saw = load_state(&self.queue, pass);
-        if !saw.is_above_zero() {
-            return Tried::Busy;
-        }
-        let found = try_take(&self.queue, pass, saw);
-        if found.word == saw.word {
-            return Tried::Got(Permit { number: None });
-        }
-        contention(saw, found)
+        try_permit(&self.queue, pass)
     }
+}
+
+/// A permit of a semaphore on this queue, synchronous or not, where one is free.
+#[inline(always)]
+pub fn try_permit<T: Carries + Send>(queue: &Queue<SemClient<T>>, pass: &mut SemPass<T>) -> Tried
+    requires belongs { IsOf queue.now pass.old }
+    requires ready { IsReady (pass_view pass.old).facts }
+    ensures belongs { IsOf queue.now pass.new }
+    ensures called { CallRule (pass_view pass.old)
+        (tried_entries (pass_view pass.old).number result) [] (pass_view pass.new) }
+    ensures tries { Tries (pass_view pass.old) result (pass_view pass.new) }
+    ensures ready { IsReady (pass_view pass.new).facts }
+    ensures alone { (pass_view pass.old).alone ≡ true → IsPlainTry (pass_view pass.old) result }
+{
+    let saw = load_state(queue, pass);
+    if !saw.is_above_zero() {
+        return Tried::Busy;
+    }
+    let found = try_take(queue, pass, saw);
+    if found.word == saw.word {
+        return Tried::Got(Permit { number: None });
+    }
+    contention(saw, found)
 }
 
 // The two states of a try by which another caller was first.

@@ -1,6 +1,7 @@
 use Rattle.std.proofs.Common.{[], refl, rules, ◌∙◌}
 use Rattle.cqs_semaphore_client.specs.Semaphore.{semaphore_object}
 use Rattle.cqs_rule.specs.Passes.{pass_view}
+use Rattle.cqs_semaphore.proofs.PlainPasses.{plain-opening}
 use Rattle.cqs_floor_shared_kinds.proofs.PermitLeaves.{silent}
 use Rattle.cqs_floor_shared_kinds.proofs.PermitsServed.{found-gone, left-unserved, void-unserved}
 use Rattle.cqs_floor_shared_kinds.proofs.Runs.{went-none, went-then}
@@ -24,13 +25,14 @@ returns-in-Left-clause-went g c =
 pub returns-in-Left-clause-tells : goal.returns-in-Left-clause-tells
 returns-in-Left-clause-tells g c =
     let ends = rw c.in-Left.is at c.finish.ensures.ends in
-    let unserved = left-unserved _ _ ends.0 in
+    let unserved = left-unserved _ _ (plain-opening c.args.semaphore.now c.finish.ensures.belongs (λ s. refl)) ends.0 in
     search rules
 
 pub returns-in-Void-clause-tells : goal.returns-in-Void-clause-tells
 returns-in-Void-clause-tells g c =
     let ends = rw c.in-Void.is at c.finish.ensures.ends in
-    (found-gone _ _ ends.0, void-unserved _ _ ends.0)
+    let plain = plain-opening c.args.semaphore.now c.finish.ensures.belongs (λ s. refl) in
+    (found-gone _ _ plain ends.0, void-unserved _ _ plain ends.0)
 
 pub returns-in-Void-clause-went : goal.returns-in-Void-clause-went
 returns-in-Void-clause-went g c =

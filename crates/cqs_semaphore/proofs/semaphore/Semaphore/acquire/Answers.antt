@@ -11,6 +11,7 @@ use Rattle.cqs_rule_laws.proofs.Rules.{call-rule_own}
 use Rattle.cqs_semaphore_client.specs.Semaphore.{semaphore_object}
 use Rattle.cqs_semaphore.specs.Causes.{drawn_in}
 use Rattle.cqs_semaphore.proofs.States.{next-count}
+use Rattle.cqs_semaphore.proofs.PlainPasses.{plain-opening}
 use Rattle.cqs_semaphore.proofs.semaphore.Semaphore.acquire.Goals as goal
 
 pub returns-then-next_wait-limit-clause-called : goal.returns-then-next_wait-limit-clause-called
@@ -57,7 +58,8 @@ returns-then-is_above_zero-clause-acquired g c =
 pub returns-then-is_above_zero-clause-alone : goal.returns-then-is_above_zero-clause-alone
 returns-then-is_above_zero-clause-alone g c = λ alone.
     plain-acquire _ _ (Now (record { number = None }))
-    (quiet _ c.requires.belongs.alone c.args.pass.now.live.0 alone c.requires.ready.idle)
+    (quiet _ (plain-opening c.args.self.now c.requires.belongs (λ x. refl))
+    c.requires.belongs.alone c.args.pass.now.live.0 alone c.requires.ready.idle)
     (returns-then-is_above_zero-clause-called g c) alone
 
 pub returns-clause-called : goal.returns-clause-called
@@ -90,7 +92,8 @@ returns-clause-acquired g c =
 pub returns-clause-alone : goal.returns-clause-alone
 returns-clause-alone g c = λ alone.
     plain-acquire _ _ c.wait_in_line.result
-    (quiet _ c.requires.belongs.alone c.args.pass.now.live.0 alone c.requires.ready.idle)
+    (quiet _ (plain-opening c.args.self.now c.requires.belongs (λ x. refl))
+    c.requires.belongs.alone c.args.pass.now.live.0 alone c.requires.ready.idle)
     (returns-clause-called g c) alone
 
 -- no slot was free

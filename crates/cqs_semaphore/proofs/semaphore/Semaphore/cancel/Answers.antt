@@ -1,4 +1,4 @@
-use Rattle.std.proofs.Common.{Some, ◌∷◌, [], ap, subst}
+use Rattle.std.proofs.Common.{Some, ◌∷◌, [], refl, ap, subst}
 use Rattle.cqs_rule.specs.Passes.{pass_view}
 use Rattle.cqs_rule.specs.Waits.{place_of}
 use Rattle.cqs_core.specs.declared.entries.Entry.TheVariants as entry
@@ -8,6 +8,7 @@ use Rattle.cqs_cancel.specs.Alone.{OwesNone}
 use Rattle.cqs_semaphore.proofs.AloneSteps.{quiet, plain-left, plain-late, none-brought, none-late}
 use Rattle.cqs_semaphore.proofs.Between.{passed-between}
 use Rattle.cqs_semaphore.proofs.CancelSteps.{gone, gone-owing, late}
+use Rattle.cqs_semaphore.proofs.PlainPasses.{plain-opening}
 use Rattle.cqs_semaphore.proofs.semaphore.Semaphore.cancel.Goals as goal
 
 pub returns-in-Gone-clause-cancelled : goal.returns-in-Gone-clause-cancelled
@@ -51,20 +52,23 @@ pub returns-in-Gone-clause-alone_brings_none : goal.returns-in-Gone-clause-alone
 returns-in-Gone-clause-alone_brings_none g c = λ alone.
     let so = returns-in-Gone-clause-cancelled g c in
     none-brought _ _ _ so.0
-    (quiet _ c.requires.belongs.alone c.args.pass.now.live.0 alone c.requires.ready.idle) so.1 alone
+    (quiet _ (plain-opening c.args.self.now c.requires.belongs (λ x. refl))
+    c.requires.belongs.alone c.args.pass.now.live.0 alone c.requires.ready.idle) so.1 alone
 
 pub returns-in-GoneOwing-clause-alone_brings_none : goal.returns-in-GoneOwing-clause-alone_brings_none
 returns-in-GoneOwing-clause-alone_brings_none g c = λ alone.
     let so = returns-in-GoneOwing-clause-cancelled g c in
     none-brought _ _ _ so.0
-    (quiet _ c.requires.belongs.alone c.args.pass.now.live.0 alone c.requires.ready.idle) so.1 alone
+    (quiet _ (plain-opening c.args.self.now c.requires.belongs (λ x. refl))
+    c.requires.belongs.alone c.args.pass.now.live.0 alone c.requires.ready.idle) so.1 alone
 
 pub returns-in-Late-clause-alone_brings_none : goal.returns-in-Late-clause-alone_brings_none
 returns-in-Late-clause-alone_brings_none g c = λ alone.
     let v = pass_view c.args.pass.now in
     let k = (place_of c.args.wait).index in
     let so = returns-in-Late-clause-cancelled g c in
-    none-late _ _ k (quiet _ c.requires.belongs.alone c.args.pass.now.live.0 alone c.requires.ready.idle)
+    none-late _ _ k (quiet _ (plain-opening c.args.self.now c.requires.belongs (λ x. refl))
+    c.requires.belongs.alone c.args.pass.now.live.0 alone c.requires.ready.idle)
     (subst (λ p. CallRule v (entry.Late v.number k ∷ []) (passed_further p) (pass_view c.cancel.new.pass)) so.2.0 so.1)
     alone
 

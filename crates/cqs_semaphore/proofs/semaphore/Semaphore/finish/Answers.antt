@@ -1,8 +1,9 @@
-use Rattle.std.proofs.Common.{◌∙◌}
+use Rattle.std.proofs.Common.{◌∙◌, refl}
 use Rattle.cqs_semaphore.proofs.AloneSteps.{quiet, plain-end, turned-back}
 use Rattle.cqs_semaphore.proofs.Between.{ends-between}
 use Rattle.cqs_semaphore.proofs.ReleaseSteps.{ends-rule, ends-by}
 use Rattle.cqs_semaphore.proofs.ResumeSteps.{drawn-past, further-so}
+use Rattle.cqs_semaphore.proofs.PlainPasses.{plain-opening}
 use Rattle.cqs_semaphore.proofs.semaphore.Semaphore.finish.Goals as goal
 
 pub returns-clause-called : goal.returns-clause-called
@@ -19,7 +20,8 @@ pub returns-clause-alone : goal.returns-clause-alone
 returns-clause-alone g c = λ alone one.
     let rule = returns-clause-called g c in
     plain-end _ _ c.release_after.result _ _ rule (returns-clause-ends g c)
-    (λ idle. quiet _ c.finish.ensures.belongs.alone c.finish.new.pass.live.0 (rule.called.same.alone ∙ alone) idle)
+    (λ idle. quiet _ (plain-opening c.args.self.now c.finish.ensures.belongs (λ x. refl))
+    c.finish.ensures.belongs.alone c.finish.new.pass.live.0 (rule.called.same.alone ∙ alone) idle)
     alone one
 
 pub returns-clause-alone_turned : goal.returns-clause-alone_turned

@@ -9,6 +9,7 @@ use Rattle.cqs_rule.proofs.Claiming.{saw-left}
 use Rattle.cqs_rule_laws.proofs.Calls.{called-by}
 use Rattle.cqs_rule_laws.proofs.Rules.{call-rule_own}
 use Rattle.cqs_semaphore_client.specs.Semaphore.{semaphore_object}
+use Rattle.cqs_semaphore.proofs.PlainPasses.{plain-opening}
 use Rattle.cqs_semaphore.proofs.semaphore.Semaphore.release.Goals as goal
 
 pub returns-then-is_below_zero-clause-called : goal.returns-then-is_below_zero-clause-called
@@ -27,9 +28,11 @@ pub returns-then-is_below_zero-clause-alone : goal.returns-then-is_below_zero-cl
 returns-then-is_below_zero-clause-alone g c = λ alone.
     let rule = returns-then-is_below_zero-clause-called g c in
     plain-release _ _ c.send.result
-    (quiet _ c.requires.belongs.alone c.args.pass.now.live.0 alone c.requires.ready.idle)
+    (quiet _ (plain-opening c.args.self.now c.requires.belongs (λ x. refl))
+    c.requires.belongs.alone c.args.pass.now.live.0 alone c.requires.ready.idle)
     rule (returns-then-is_below_zero-clause-released g c)
-    (λ idle. quiet _ c.send.ensures.belongs.alone c.send.new.pass.live.0 (rule.called.same.alone ∙ alone) idle) alone
+    (λ idle. quiet _ (plain-opening c.args.self.now c.send.ensures.belongs (λ x. refl))
+    c.send.ensures.belongs.alone c.send.new.pass.live.0 (rule.called.same.alone ∙ alone) idle) alone
 
 pub returns-clause-called : goal.returns-clause-called
 returns-clause-called g c =
@@ -48,9 +51,11 @@ returns-clause-released g c =
 pub returns-clause-alone : goal.returns-clause-alone
 returns-clause-alone g c = λ alone.
     let rule = returns-clause-called g c in
-    plain-release _ _ Freed (quiet _ c.requires.belongs.alone c.args.pass.now.live.0 alone c.requires.ready.idle)
+    plain-release _ _ Freed (quiet _ (plain-opening c.args.self.now c.requires.belongs (λ x. refl))
+    c.requires.belongs.alone c.args.pass.now.live.0 alone c.requires.ready.idle)
     rule (returns-clause-released g c)
-    (λ idle. quiet _ c.give_permit.ensures.belongs.alone c.give_permit.new.pass.live.0 (rule.called.same.alone ∙ alone)
+    (λ idle. quiet _ (plain-opening c.args.self.now c.give_permit.ensures.belongs (λ x. refl))
+    c.give_permit.ensures.belongs.alone c.give_permit.new.pass.live.0 (rule.called.same.alone ∙ alone)
     idle)
     alone
 
@@ -59,18 +64,21 @@ returns-then-is_below_zero-clause-handed g c =
     let sent = ends-rule _ _ _ _ _ c.send.ensures.ended c.give_permit.ensures.belongs.live.own
     c.send.ensures.belongs.live.legal in
     let is = c.in-Ok.ensures.claimed.left.1.is in
-    gave-left _ _ _ _ (ap (λ z. z.laid) is) (ap (λ z. z.handed) is)
-    (gave-value _ _ _ _ c.give_permit.ensures.handed sent.called.handed sent.called.unlaid)
+    gave-left _ _ _ _ (ap (λ z. z.laid) is) (ap (λ z. z.handed) is) (ap (λ z. z.seen) is) (ap (λ z. z.number) is)
+    (gave-value _ _ _ _ _ c.give_permit.ensures.saw c.give_permit.ensures.handed
+    (sent.called.more, sent.called.seen) sent.called.handed sent.called.unlaid)
 
 pub returns-clause-handed : goal.returns-clause-handed
 returns-clause-handed g c =
     let is = c.in-Ok.ensures.claimed.left.1.is in
-    gave-left _ _ _ _ (ap (λ z. z.laid) is) (ap (λ z. z.handed) is) (gave-at-once _ _ _ c.give_permit.ensures.handed)
+    gave-left _ _ _ _ (ap (λ z. z.laid) is) (ap (λ z. z.handed) is) (ap (λ z. z.seen) is) (ap (λ z. z.number) is)
+    (gave-at-once _ _ _ _ c.give_permit.ensures.saw c.give_permit.ensures.handed)
 
 -- the step on the state is made after the claim
 pub give_permit-requires-clause-full : goal.give_permit-requires-clause-full
 give_permit-requires-clause-full g c =
-    full-left _ _ _ (ap (λ z. z.laid) c.in-Ok.ensures.claimed.left.1.is) c.requires.full
+    let is = c.in-Ok.ensures.claimed.left.1.is in
+    full-left _ _ _ (ap (λ z. z.laid) is) (ap (λ z. z.handed) is) c.requires.full
 
 -- no slot was free
 pub returns-in_default-clause-called : goal.returns-in_default-clause-called

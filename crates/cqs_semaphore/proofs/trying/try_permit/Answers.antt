@@ -9,7 +9,7 @@ use Rattle.cqs_semaphore.proofs.AloneSteps.{plain-busy, plain-got}
 use Rattle.cqs_rule_laws.proofs.Rules.{call-rule_own}
 use Rattle.cqs_semaphore_client.specs.Semaphore.{semaphore_object}
 use Rattle.cqs_semaphore.proofs.TrySteps.{loaded, got, missed, busy-called, was-busy, swap-called, was-got, contended}
-use Rattle.cqs_semaphore.proofs.semaphore.Semaphore.try_acquire.Goals as goal
+use Rattle.cqs_semaphore.proofs.trying.try_permit.Goals as goal
 
 pub returns-then-not-is_above_zero-clause-called : goal.returns-then-not-is_above_zero-clause-called
 returns-then-not-is_above_zero-clause-called g c =

@@ -10,12 +10,12 @@ use Rattle.cqs_semaphore.proofs.AloneSteps.{plain-granted, plain-pending}
 use Rattle.cqs_core.specs.declared.cells.CoreState.TheVariants as state
 use Rattle.cqs_rule_laws.proofs.Rules.{call-rule_own}
 use Rattle.cqs_cell.proofs.Polls.{found-so, pending-called, pending-cell, pending-rests, granted-called, granted-cell, granted-rests}
-use Rattle.cqs_semaphore.specs.Causes.{primitive_of}
-use Rattle.cqs_semaphore.proofs.semaphore.Semaphore.poll.Goals as goal
+use Rattle.cqs_semaphore_client.specs.SemaphoreMade.{primitive_of}
+use Rattle.cqs_semaphore.proofs.polling.poll_wait.Goals as goal
 
 pub look_for_grant-requires-clause-belongs : goal.look_for_grant-requires-clause-belongs
 look_for_grant-requires-clause-belongs g c =
-    subst (λ p. IsOf c.args.self.now.queue p) (sym c.spend_wait-at.ensures.same) c.requires.belongs
+    subst (λ p. IsOf c.args.queue.now p) (sym c.spend_wait-at.ensures.same) c.requires.belongs
 
 pub wait_of-requires-clause-place : goal.wait_of-requires-clause-place
 wait_of-requires-clause-place g c =
@@ -54,7 +54,7 @@ returns-in-Some-clause-alone g c = λ alone.
 
 pub returns-in-None-clause-belongs : goal.returns-in-None-clause-belongs
 returns-in-None-clause-belongs g c =
-    subst (λ p. IsOf c.args.self.now.queue p) (sym c.wait_of.ensures.same) c.look_for_grant.ensures.belongs
+    subst (λ p. IsOf c.args.queue.now p) (sym c.wait_of.ensures.same) c.look_for_grant.ensures.belongs
 
 pub returns-in-None-clause-called : goal.returns-in-None-clause-called
 returns-in-None-clause-called g c =

@@ -1,9 +1,15 @@
-use Rattle.std.proofs.Common.{[]}
+use Rattle.std.proofs.Common.{[], ap, ◌∙◌, rules}
+use Rattle.cqs_words.specs.declared.state.StateWord.{StateWord}
 use Rattle.cqs_semaphore_client.specs.Semaphore.{semaphore_object}
 use Rattle.cqs_rule_laws.proofs.Calls.{called-by}
 use Rattle.cqs_rule_laws.proofs.Rules.{call-rule_own}
-use Rattle.cqs_semaphore.proofs.States.{state-loaded, state-once}
-use Rattle.cqs_semaphore.proofs.semaphore.Semaphore.state.Goals as goal
+use Rattle.cqs_semaphore.proofs.States.{state-is, state-loaded, state-once}
+use Rattle.cqs_semaphore.proofs.state.state_now.Goals as goal
+
+pub returns-clause-state : goal.returns-clause-state
+returns-clause-state g c =
+    let is = ap (λ (x : StateWord). x.value) c.read.ensures.value ∙ state-is _ _ _ c.read_state.ensures.saw in
+    search rules
 
 pub returns-clause-was : goal.returns-clause-was
 returns-clause-was g c = state-loaded _ _ _ c.read_state.ensures.saw

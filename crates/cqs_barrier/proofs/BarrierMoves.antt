@@ -16,13 +16,15 @@ use Rattle.cqs_barrier_object.proofs.Parties.{held-within}
 use Rattle.cqs_barrier_object.proofs.WordSteps.{arrival-keeps, last-keeps, withdrawal-keeps, stay-keeps}
 use Rattle.cqs_rule_laws.specs.declared.view.Facts.{Facts}
 use Rattle.cqs_rule_laws.specs.declared.view.Has.{Has}
-use Rattle.cqs_rule_laws.specs.Events.{Moves, word_plus, word_after_exchange, in_any_case, where_found}
+use Rattle.cqs_rule_laws.specs.declared.view.View.{View}
+use Rattle.cqs_rule_laws.specs.Events.{Event, Moves, SlotsStay, moment, word_plus, word_after_exchange, in_any_case, where_found}
 use Rattle.cqs_rule_laws.specs.Facts.{is_owing}
 use Rattle.cqs_rule_laws.specs.Hidden.{Hidden, stands_at}
 use Rattle.cqs_rule_laws.specs.Lists.{NamesOnly}
 use Rattle.cqs_rule_laws.specs.Ruled.{number_at}
 use Rattle.cqs_rule_laws.specs.Held.{held_of}
 use Rattle.cqs_rule_laws.proofs.Held.{held-is, held-set, held-kept}
+use Rattle.cqs_rule_laws.proofs.PaysAway.{gives-never}
 use Rattle.cqs_rule.proofs.Ticketless.{no-ticket, if-ticketless, same-ticket, if-away, away-from, stays-or}
 use Rattle.cqs_barrier.specs.Barrier.{further_of, barrier_shown, ShowsBarrier, barrier_object, barrier_primitive, arrives, looks_to_leave, withdraws}
 use Rattle.cqs_barrier.specs.BarrierClient.{further-set, further-kept}
@@ -304,3 +306,12 @@ withdraw-moves parties p facts saw k few at some = record {
         → is_owing (if b then doing.Decided (number_at facts.doing) true else facts.doing) ≡ is_owing facts.doing
     same-owing true q = absurd (cc)
     same-owing false q = refl
+
+-- a barrier has no value slots
+pub none-stays : {T : Type 0} (parties slots : ℕ) (event : Event BarrierEntry) (made : ℕ → Bool)
+    (v : View BarrierEntry T) → SlotsStay barrier_object (barrier_primitive {T = T} parties) slots event made v
+none-stays {T} parties slots event made v = record {
+  stay = λ n k x low is o. absurd o;
+  none = λ n k low. gives-never (event.entries (moment (barrier_primitive {T = T} parties).opening v.number v.facts made
+      n)) k;
+}

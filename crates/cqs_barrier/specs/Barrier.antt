@@ -1,6 +1,6 @@
 -- The barrier as a client of the queue: its one word has the remaining number, and its history is
 -- that of the plain barrier.
-use Rattle.std.specs.Prelude.{◌≡◌, ℕ, ◌+◌, ◌-◌, map, true, false, List, [], ◌∷◌, slice_index, if◌then◌else◌}
+use Rattle.std.specs.Prelude.{◌≡◌, ℕ, ◌+◌, ◌-◌, map, true, false, List, [], ◌∷◌, slice_index, if◌then◌else◌, None}
 use Rattle.cqs_core.specs.declared.doings.Doing.TheVariants as doing
 use Rattle.cqs_barrier_object.specs.declared.entries.BarrierEntry.{BarrierEntry}
 use Rattle.cqs_barrier_object.specs.declared.entries.BarrierEntry.TheVariants as entry
@@ -50,6 +50,7 @@ barrier_object = record {
   legal = λ opening. IsLegal opening.size;
   entries = λ step p k payload. step_entries step p k;
   gains = no_more;
+  gives = λ entry. None;
   most = λ opening. opening.size;
   knows = λ opening has. Unit {0};
 }

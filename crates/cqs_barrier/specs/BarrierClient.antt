@@ -28,6 +28,7 @@ use Rattle.cqs_rule_laws.specs.Opened.{first_hidden, four}
 use Rattle.cqs_rule_laws.specs.Held.{held_of}
 use Rattle.cqs_rule_laws.proofs.Held.{held-at, held-is, held-set, held-kept}
 use Rattle.cqs_rule_laws.specs.Views.{first_has}
+use Rattle.cqs_rule_laws.proofs.PaysAway.{gives-never, pays-none}
 use Rattle.cqs_rule.proofs.PlainQueues.{suits-none}
 use Rattle.cqs_barrier.specs.Barrier.{further_of, barrier_shown, ShowsBarrier, no_more, barrier_object, barrier_manner, barrier_primitive}
 use Rattle.cqs_barrier.specs.Word.{word_of, parties_in, remaining_in}
@@ -338,6 +339,10 @@ barrier-client parties some low = record {
         (held-at c.has p has there);
     known = λ c words log handed p has shown there. tt;
     gathers = λ mine theirs k o. ⊎_elim (λ a. absurd a) (λ a. absurd a) o;
+    gathered = λ mine theirs k o. absurd o;
+    bare = λ has k o. absurd o;
+    gives = λ s p k payload j suits. gives-never (barrier_object.entries s p k payload) j
+        ∙ sym (pays-none barrier_manner (λ e. e) s payload j suits);
     hands_in = λ c words log handed k value shown.
         record { word = shown.word; barrier = shown.barrier };
   };

@@ -14,12 +14,14 @@ use Rattle.cqs_rule_laws.specs.declared.config.CancelMode.{CancelMode}
 use Rattle.cqs_rule_laws.specs.declared.config.CancelMode.TheVariants.{Smart, Simple}
 use Rattle.cqs_rule_laws.specs.declared.view.Facts.{Facts}
 use Rattle.cqs_rule_laws.specs.declared.view.Has.{Has}
-use Rattle.cqs_rule_laws.specs.Events.{Event, Moves, IsShort, word_plus, in_any_case}
+use Rattle.cqs_rule_laws.specs.declared.view.View.{View}
+use Rattle.cqs_rule_laws.specs.Events.{Event, Moves, SlotsStay, IsShort, moment, word_plus, in_any_case}
 use Rattle.cqs_rule_laws.specs.Facts.{is_owing}
 use Rattle.cqs_rule_laws.specs.Hidden.{Hidden, stands_at}
 use Rattle.cqs_rule_laws.specs.Lists.{NamesOnly}
 use Rattle.cqs_rule_laws.specs.Manner.{Asks}
 use Rattle.cqs_rule_laws.specs.Ruled.{number_at}
+use Rattle.cqs_rule_laws.proofs.PaysAway.{gives-never}
 use Rattle.cqs_rule.proofs.Ticketless.{no-ticket, if-ticketless, if-away, away-from}
 use Rattle.cqs_latch.specs.Latch.{is_simple, latch_limit, further_of, latch_shown, ShowsLatch, latch_object, latch_primitive, latch_manner}
 use Rattle.cqs_latch.specs.LatchClient.{further-set, further-kept, none-held}
@@ -312,3 +314,12 @@ module _ (T : Type 0) (mode : CancelMode) (size p : ℕ) (facts : Facts) where
 
       no-door : (j : ℕ) (b : Bool) → doing.Decided j b ≡ doing.Door → ⊥
       no-door j b q = cc
+
+-- a latch has no value slots
+pub none-stays : {T : Type 0} (mode : CancelMode) (size slots : ℕ) (event : Event LatchEntry) (made : ℕ → Bool)
+    (v : View LatchEntry T) → SlotsStay latch_object (latch_primitive {T = T} mode size) slots event made v
+none-stays {T} mode size slots event made v = record {
+  stay = λ n k x low is o. absurd o;
+  none = λ n k low. gives-never (event.entries (moment (latch_primitive {T = T} mode size).opening v.number v.facts made
+      n)) k;
+}

@@ -1,6 +1,6 @@
 -- The latch as a client: its two words are the count, and the waiters with the done bit; its
 -- history is the client's.
-use Rattle.std.specs.Prelude.{◌≡◌, ℕ, ◌≤◌, ◌==◌, map, Bool, true, false, List, [], ◌∷◌, length, slice_index, pos}
+use Rattle.std.specs.Prelude.{◌≡◌, ℕ, ◌≤◌, ◌==◌, map, Bool, true, false, List, [], ◌∷◌, length, slice_index, pos, None}
 use Rattle.cqs_core.specs.declared.cells.CoreCell.{CoreCell}
 use Rattle.cqs_core.specs.Numbered.{EachAt}
 use Rattle.cqs_latch_object.specs.declared.entries.LatchEntry.{LatchEntry}
@@ -69,6 +69,7 @@ latch_object = record {
   legal = λ opening. IsLegal (is_simple opening.mode) opening.size;
   entries = λ step p k payload. step_entries step p k;
   gains = nothing_more;
+  gives = λ entry. None;
   most = λ opening. 0;
   knows = λ opening has. Unit {0};
 }

@@ -38,6 +38,7 @@ use Rattle.cqs_rule_laws.specs.Lists.{NamesOnly}
 use Rattle.cqs_rule_laws.specs.Manner.{mode_for, Suits}
 use Rattle.cqs_rule_laws.specs.Opened.{first_hidden, four}
 use Rattle.cqs_rule_laws.specs.Views.{first_has}
+use Rattle.cqs_rule_laws.proofs.PaysAway.{gives-never, pays-none}
 use Rattle.cqs_rule.proofs.PlainQueues.{suits-none}
 use Rattle.cqs_latch.specs.Latch.{is_simple, further_of, latch_shown, HoldsNothing, HoldsPlain, ShowsLatch, nothing_more, latch_object, latch_manner, latch_primitive}
 use Rattle.cqs_words.specs.State.{state_word, count_in}
@@ -502,6 +503,10 @@ latch-client mode size = record {
         let none : has.held ≡ 0 = shown.none_held.at p has there in omega arith;
     known = λ c words log handed p has shown there. tt;
     gathers = λ mine theirs k o. ⊎_elim (λ a. absurd a) (λ a. absurd a) o;
+    gathered = λ mine theirs k o. absurd o;
+    bare = λ has k o. absurd o;
+    gives = λ s p k payload j suits. gives-never (latch_object.entries s p k payload) j
+        ∙ sym (pays-none (latch_manner mode) (λ e. e) s payload j suits);
     hands_in = λ c words log handed k value shown. shown;
   };
 }

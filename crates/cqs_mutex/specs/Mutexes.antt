@@ -1,5 +1,5 @@
 -- What holds of a mutex and of its passes between two calls.
-use Rattle.std.specs.Prelude.{◌≡◌, ℕ, true, List, [], ◌∷◌, ◌++◌, Some, None, Result, Ok, Err}
+use Rattle.std.specs.Prelude.{◌≡◌, ℕ, true, List, [], ◌∷◌, Some, None, Result, Ok, Err}
 use Rattle.cqs_core.specs.declared.entries.Entry.{Entry}
 use Rattle.cqs_rule_laws.specs.declared.client.ClientWords.{Ghosts}
 use Rattle.cqs_rule_laws.specs.declared.config.Config.{Config}
@@ -39,7 +39,6 @@ module _ {T : Type 0} {g : Ghosts (SemClient (Kept T)) (Kept T) Entry} where
     pub first : (pass_view p).number ≡ 0
     pub own : (pass_view p).own ≡ 0 ∷ []
     pub nothing : (pass_view p).seen ≡ []
-    pub handed : (before : List (ℕ × Kept T))
-        × ((pass_view p).handed ≡ before ++ (0, in_slot value) ∷ [])
+    pub handed : (pass_view p).handed ≡ (0, in_slot value) ∷ []
     pub alone : (pass_view p).alone ≡ true
     pub ready : Rests (pass_view p) 0 [] (pass_view p)

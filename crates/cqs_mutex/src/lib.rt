@@ -15,6 +15,7 @@
 
 mod answers;
 mod guard;
+mod laws;
 mod locking;
 mod mutex;
 mod seats;
@@ -25,4 +26,5 @@ mod waiting;
 
 pub use answers::{LockLeft, Locked, PolledLock, TriedLock};
 pub use guard::{Guard, LockWait};
+pub use laws::guards_get_the_last_unlocked;
 pub use mutex::{Mutex, MutexPass};

@@ -5,7 +5,8 @@ ghost use Rattle.cqs_rule_laws.specs.Crew.{IsBetween};
 ghost use Rattle.cqs_rule.specs.Claims.{Crowds};
 ghost use Rattle.cqs_rule.specs.Owed.{HasUnder, under_reached};
 ghost use Rattle.cqs_rule.specs.Passes.{ample_of, pass_view};
-ghost use Rattle.cqs_rule_laws.specs.SlotSteps.{WasHandedIn};
+ghost use Rattle.cqs_rule_laws.specs.SlotSteps.{WasHandedBy};
+ghost use Rattle.cqs_semaphore_client.specs.Semaphore.{semaphore_object};
 ghost use Rattle.cqs_semaphore.specs.Alone.{IsPlainEnd, IsTurnedBack};
 ghost use Rattle.cqs_semaphore.specs.Answers.{Ends};
 ghost use Rattle.cqs_rule_laws.specs.CallRule.{IsReady};
@@ -41,7 +42,7 @@ impl<T: Send + Drop> Mutex<T> {
         ensures ready { OnErr result (IsReady (pass_view pass.new).facts) }
         ensures unlocked { IfOk result (λ released.
             HasUnlocked (value_of guard) (pass_view pass.old) released (pass_view pass.new)) }
-        ensures handed { OnOk result (WasHandedIn 0 (in_slot (value_of guard))
+        ensures handed { OnOk result (WasHandedBy semaphore_object 0 (in_slot (value_of guard))
             (pass_view pass.old) (pass_view pass.new)) }
         ensures between { IsBetween (pass_view pass.new).facts }
         ensures leaves { IfOk result (λ released. UnlockLeaves released (pass_view pass.new)) }

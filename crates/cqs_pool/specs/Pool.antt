@@ -1,10 +1,11 @@
 -- The pool as a client: it uses no words, and shows the same whatever they are; its elements are
 -- values in cells, what passes bring, and what they have in hand.
-use Rattle.std.specs.Prelude.{◌≡◌, ◌≢◌, ℕ, ◌<◌, false, map, List, [], ◌∷◌}
+use Rattle.std.specs.Prelude.{◌≡◌, ◌≢◌, ℕ, ◌<◌, false, map, List, [], ◌∷◌, Option, Some, None}
 use Rattle.cqs_core.specs.declared.cells.CoreCell.{CoreCell}
 use Rattle.cqs_core.specs.declared.cells.CoreState.TheVariants as state
 use Rattle.cqs_core.specs.Numbered.{EachAt}
 use Rattle.cqs_pool_object.specs.declared.entries.PoolEntry.{PoolEntry}
+use Rattle.cqs_pool_object.specs.declared.entries.PoolEntry.TheVariants as entry
 use Rattle.cqs_pool_object.specs.PoolEntries.{IsLegal}
 use Rattle.cqs_pool_object.specs.PoolOrder.{IsInOrder}
 use Rattle.cqs_pool_object.specs.PoolNames.{entry_names}
@@ -57,12 +58,23 @@ pub record HasEach (size : ℕ) (slots : List ℕ) : Type 0 where
   pub once : IsDistinct slots
   pub low : (e : ℕ) → In e slots → e < size
 
+-- a put gives the value slot of its element away
+abbrev pub slot_given : PoolEntry → Option ℕ
+slot_given (entry.Put c e) = Some e
+slot_given (entry.Enter c k) = None
+slot_given (entry.Deliver k e) = None
+slot_given (entry.Leave c k) = None
+slot_given (entry.Late c k e) = None
+slot_given (entry.LookGranted c k e) = None
+slot_given (entry.LookPending c k) = None
+
 abbrev pub pool_object : Object PoolEntry
 pool_object = record {
   names = entry_names;
   legal = λ opening. IsLegal opening.size;
   entries = step_entries;
   gains = in_hand;
+  gives = slot_given;
   most = λ opening. 0;
   knows = λ opening has. HasEach opening.size has.slots;
 }

@@ -13,7 +13,7 @@ use Rattle.cqs_core.specs.declared.cells.CoreState.TheVariants as state
 use Rattle.cqs_core.specs.declared.doings.Doing.TheVariants as doing
 use Rattle.cqs_core.specs.Numbered.{IsIn, EachAt}
 use Rattle.cqs_core.specs.QueueOpening.{value_cell}
-use Rattle.cqs_core.specs.QueueSteps.{QueueStep, draws, enters, reaches, begins, puts, installs, takes, serves, leaves, delegates, passes_over, ends_refused, ends_missed, starts_leaving, leaves_line, leaves_at_once, settles, settles_owing, refuses, refuses_value, looks, pends, grants, late, in_sync, row_of, StepRow, at_counter, at_cell, Gain, nothing, its_own, a_debt, Cost, no_cost, one_owed, one_element, IsOpenStep, payload_told}
+use Rattle.cqs_core.specs.QueueSteps.{QueueStep, draws, enters, reaches, begins, puts, installs, takes, serves, leaves, delegates, passes_over, ends_refused, ends_missed, starts_leaving, leaves_line, leaves_at_once, settles, settles_owing, refuses, refuses_value, looks, pends, grants, late, in_sync, leaves_watched, sees_value, sees_taken, breaks, takes_watched, finds_broken, row_of, StepRow, at_counter, at_cell, Gain, nothing, its_own, a_debt, Cost, no_cost, one_owed, one_element, IsOpenStep, payload_told}
 use Rattle.cqs_core.proofs.EachAtLemmas.{EachAt-write}
 use Rattle.cqs_core.proofs.EitherQueues.{either-sound}
 use Rattle.cqs_core.proofs.Places.{get-below, get-set_else}
@@ -32,16 +32,17 @@ use Rattle.cqs_pool_object.proofs.PoolOrder.{step-in_order, opened-in_order}
 use Rattle.cqs_pool_object.proofs.PoolSteps.{step-pool}
 use Rattle.cqs_rule_laws.specs.declared.view.Has.{Has}
 use Rattle.cqs_rule_laws.specs.Client as client
-use Rattle.cqs_rule_laws.specs.Client.{IsClient, IsBegun, begun_by}
+use Rattle.cqs_rule_laws.specs.Client.{IsClient, IsBegun, begun_by, gives_away}
+use Rattle.cqs_rule_laws.specs.Given.{times_given}
 use Rattle.cqs_rule_laws.specs.Hidden.{Hidden, hidden_after, has_after, has_gained, has_paid, has_both, has_none, hands_over}
 use Rattle.cqs_rule_laws.specs.Lists as lists
 use Rattle.cqs_rule_laws.specs.Lists.{NamesOnly}
 use Rattle.cqs_rule_laws.specs.Manner.{Suits}
 use Rattle.cqs_rule_laws.specs.Opened.{first_hidden, first_payload}
 use Rattle.cqs_rule_laws.specs.Views.{first_has}
-use Rattle.cqs_rule_laws.proofs.Lists.{has_left, has_right, without_has}
+use Rattle.cqs_rule_laws.proofs.Lists.{has_left, has_right, has_append, without_has}
 use Rattle.cqs_rule.proofs.PlainQueues.{suits-none}
-use Rattle.cqs_pool.specs.Pool.{loads_of, holds_of, pool_shown, ShowsPool, in_hand, pool_manner, pool_object, pool_primitive}
+use Rattle.cqs_pool.specs.Pool.{loads_of, holds_of, pool_shown, ShowsPool, in_hand, slot_given, pool_manner, pool_object, pool_primitive}
 use Rattle.cqs_pool.specs.PoolUnrefused.{MakesNone, unrefused-row}
 use Rattle.cqs_pool.specs.PoolInHand.{elements-held, has-in, has-times, hold-at, hold-is, hold-kept, hold-set, holds-after, load-is, load-kept, loads-after, once-held}
 
@@ -71,6 +72,39 @@ silent-step (looks pends) p k payload n apart = rw (ne_eqb p n (λ q. apart (sym
 silent-step (looks grants) p k payload n apart = rw (ne_eqb p n (λ q. apart (sym q))) refl
 silent-step (looks late) p k payload n apart = rw (ne_eqb p n (λ q. apart (sym q))) refl
 silent-step (in_sync e) p k payload n apart = refl
+
+-- a put alone gives a value slot away, that of its element
+step-given : (s : QueueStep) (p k payload j : ℕ)
+    → times_given slot_given (step_entries s p k payload) j ≡ gives_away (row_of s) payload j
+step-given draws p k payload j = refl
+step-given enters p k payload j = refl
+step-given reaches p k payload j = refl
+step-given begins p k payload j = refl
+step-given puts p k payload j = omega arith
+step-given installs p k payload j = refl
+step-given takes p k payload j = refl
+step-given serves p k payload j = refl
+step-given leaves p k payload j = refl
+step-given delegates p k payload j = refl
+step-given passes_over p k payload j = refl
+step-given ends_refused p k payload j = refl
+step-given ends_missed p k payload j = refl
+step-given starts_leaving p k payload j = refl
+step-given leaves_line p k payload j = refl
+step-given leaves_at_once p k payload j = refl
+step-given settles p k payload j = refl
+step-given settles_owing p k payload j = refl
+step-given refuses p k payload j = refl
+step-given refuses_value p k payload j = refl
+step-given (looks pends) p k payload j = refl
+step-given (looks grants) p k payload j = refl
+step-given (looks late) p k payload j = refl
+step-given (in_sync leaves_watched) p k payload j = refl
+step-given (in_sync sees_value) p k payload j = refl
+step-given (in_sync sees_taken) p k payload j = refl
+step-given (in_sync breaks) p k payload j = refl
+step-given (in_sync takes_watched) p k payload j = refl
+step-given (in_sync finds_broken) p k payload j = refl
 
 none-made : (t : QueueStep) → Suits pool_manner t → MakesNone (row_of t)
 none-made draws suits = tt
@@ -420,6 +454,9 @@ pool-client size = record {
     known = λ c words log handed p has shows there. elements-held size c log p has shows there;
     gathers = λ mine theirs k o. ⊎_elim (λ a. has_left k mine.slots theirs.slots a)
         (λ b. has_right k mine.slots theirs.slots b) o;
+    gives = λ s p k payload j suits. step-given s p k payload j;
+    gathered = λ mine theirs k o. has_append k mine.slots theirs.slots o;
+    bare = λ has k o. absurd o;
     hands_in = λ c words log handed k value shows. shows;
   };
 }

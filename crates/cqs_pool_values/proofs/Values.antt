@@ -18,14 +18,16 @@ use Rattle.cqs_rule_laws.specs.SegmentSteps.{LeftBy}
 use Rattle.cqs_rule_laws.specs.Lists.{Has, IsPrefix, without}
 use Rattle.cqs_rule_laws.specs.Slots.{laid_in, handed_in, or_else, LaysNone}
 use Rattle.cqs_rule_laws.specs.SlotSteps.{LayIn, LaysValue, Swapped}
-use Rattle.cqs_rule_laws.proofs.Handing.{chosen, passed-by, handed-here, handed-else}
-use Rattle.cqs_rule_laws.proofs.Lists.{without_has, prefix-then}
+use Rattle.cqs_rule_laws.specs.Given.{values_for}
+use Rattle.cqs_rule_laws.proofs.Given.{values-append, values-stay, none-handed}
+use Rattle.cqs_rule_laws.proofs.Handing.{handed-here, handed-else}
+use Rattle.cqs_rule_laws.proofs.Lists.{chosen, passed-by, without_has, prefix-then}
 use Rattle.cqs_pool.specs.declared.answers.Placed.{Placed}
 use Rattle.cqs_pool.specs.declared.answers.Placed.TheVariants.{Sent, Left, Under}
 use Rattle.cqs_pool.specs.declared.answers.PoolLeft.TheVariants.{Cancelled}
 use Rattle.cqs_pool.specs.Answers.{Ends, IsCrowded, IsWorn, LeavesPass}
 use Rattle.cqs_pool.specs.Pool.{HasEach}
-use Rattle.cqs_pool_values.specs.Pools.{IsFilled, AreFilled, HoldsEach, IsTidy}
+use Rattle.cqs_pool_values.specs.Pools.{IsFilled, AreFilled, HoldsEach, BeginsEach, IsTidy}
 use Rattle.cqs_pool_values.specs.Values.{in_slot}
 
 module _ {S : Type 0} where
@@ -75,8 +77,15 @@ module _ {S : Type 0} where
   laid-swapped e x v w swap = ap (λ (z : View PoolEntry S). laid_in z.laid e) swap.is ∙ laid-here e x v.laid
 
   -- and if that is a value, one lies there
-  pub lays-value : (e : ℕ) (y : S) (v w : View PoolEntry S) → Swapped ((e, Some y) ∷ v.laid) v w → LaysValue e w
-  lays-value e y v w swap x is = (y, same_Some x (Some y) (sym is ∙ laid-swapped e (Some y) v w swap))
+  pub lays-value : (e : ℕ) (y : S) (v w : View PoolEntry S) → Swapped ((e, Some y) ∷ v.laid) v w
+      → IsFilled e v.handed → LaysValue e w
+  lays-value e y v w swap filled =
+      let more = filled-more e v.handed w.handed filled swap.more in record {
+        value = y;
+        laid = laid-swapped e (Some y) v w swap;
+        last = more.0;
+        filled = more.1;
+      }
 
   -- a pass that has an element in hand may open its slot
   pub low-slot : (e size slots : ℕ) (v : View PoolEntry S) → HasEach size v.facts.has.slots → Has e v.facts.has.slots
@@ -179,6 +188,28 @@ module _ {T : Type 0} where
           let slot_is : slot ≡ e = omega arith in
           subst (λ k. handed_in (old ++ (slot, in_slot y) ∷ []) k ≡ Some (in_slot x)) slot_is
           (handed-here old slot (in_slot y) ∙ ap (λ z. Some (in_slot z)) same)
+
+  pub begins-more : (values : List T) (old new : List (ℕ × Kept T)) (slot : ℕ) (y : T) → slot ≡ length values
+      → new ≡ old ++ (slot, in_slot y) ∷ [] → handed_in old slot ≡ None → BeginsEach values old
+      → BeginsEach (values ++ y ∷ []) new
+  begins-more values old new slot y at is empty begins e x there =
+      ap (λ l. slice_get (values_for e l) 0) is ∙ by (cases_lt e (length values))
+    where
+      by : (e < length values) ⊎ (length values ≤ e)
+          → slice_get (values_for e (old ++ (slot, in_slot y) ∷ [])) 0 ≡ Some (in_slot x)
+      by (inl low) =
+          values-stay e old (old ++ (slot, in_slot y) ∷ []) 0 (in_slot x) ((slot, in_slot y) ∷ [], refl)
+          (begins e x (sym (get-append_below values (y ∷ []) e low) ∙ there))
+      by (inr high) =
+          let below = get-below (values ++ y ∷ []) e x there in
+          let long = length_push values y in
+          let here : e ≡ length values = omega arith in
+          let same : y ≡ x = same_Some y x (sym (get-push_at values y e here) ∙ there) in
+          let slot_is : slot ≡ e = omega arith in
+          subst (λ k. slice_get (values_for k (old ++ (slot, in_slot y) ∷ [])) 0 ≡ Some (in_slot x)) slot_is
+          (ap (λ l. slice_get l 0) (values-append slot old ((slot, in_slot y) ∷ [])
+          ∙ (ap (λ l. l ++ values_for slot ((slot, in_slot y) ∷ [])) (none-handed slot old empty)
+          ∙ chosen slot slot (in_slot y ∷ []) [] refl)) ∙ ap (λ z. Some (in_slot z)) same)
 
   pub empty-more : (old new : List (ℕ × Kept T)) (slot : ℕ) (y : T) → new ≡ old ++ (slot, in_slot y) ∷ []
       → ((k : ℕ) → slot ≤ k → handed_in old k ≡ None) → (k : ℕ) → slot + 1 ≤ k → handed_in new k ≡ None

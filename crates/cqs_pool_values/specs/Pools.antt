@@ -14,7 +14,7 @@ use Rattle.cqs_rule_laws.specs.Slots.{laid_in, handed_in}
 use Rattle.cqs_pool.specs.declared.client.PoolClient.{PoolClient}
 use Rattle.cqs_pool.specs.Calls.{Rests, IsMine, size_of}
 use Rattle.cqs_pool_values.specs.declared.opening.ValuePool.{ValuePool}
-use Rattle.cqs_pool_values.specs.Values.{in_slot}
+use Rattle.cqs_pool_values.specs.Values.{in_slot, IsOfLastPut}
 
 -- a value was handed in for the element e: at the opening, or by a put
 abbrev pub IsFilled : {T : Type 0} → ℕ → List (ℕ × T) → Type 0
@@ -29,6 +29,12 @@ abbrev pub HoldsEach : {T : Type 0} → List T → List (ℕ × Kept T) → Type
 HoldsEach {T} values handed =
     (e : ℕ) (value : T) → slice_get values e ≡ Some value
     → handed_in handed e ≡ Some (in_slot value)
+
+-- and it is the first one of the element, before any put
+abbrev pub BeginsEach : {T : Type 0} → List T → List (ℕ × Kept T) → Type 0
+BeginsEach {T} values handed =
+    (e : ℕ) (value : T) → slice_get values e ≡ Some value
+    → IsOfLastPut e value [] handed
 
 -- nothing was made, since there are too few values or too many, or the configuration is out of
 -- range
@@ -60,5 +66,6 @@ module _ {T : Type 0} {g : Ghosts (PoolClient (Kept T)) (Kept T) PoolEntry} wher
     pub own : (pass_view p).own ≡ 0 ∷ []
     pub nothing : (pass_view p).seen ≡ []
     pub handed : HoldsEach values (pass_view p).handed
+    pub begins : BeginsEach values (pass_view p).handed
     pub alone : (pass_view p).alone ≡ true
     pub ready : Rests (pass_view p) [] [] (pass_view p)

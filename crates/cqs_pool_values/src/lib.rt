@@ -16,6 +16,7 @@
 
 mod answers;
 mod item;
+mod laws;
 mod opening;
 mod putting;
 mod seats;
@@ -25,4 +26,5 @@ mod waiting;
 
 pub use answers::{ItemLeft, ItemPolled, ItemTaking};
 pub use item::Item;
+pub use laws::items_get_the_last_put;
 pub use opening::{ValuePass, ValuePool};

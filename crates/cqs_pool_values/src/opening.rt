@@ -6,7 +6,7 @@ ghost use Rattle.cqs_rule_laws.specs.Configured.{is_config, is_small_config};
 ghost use Rattle.cqs_rule.specs.Passes.{ample_of, pass_view};
 ghost use Rattle.cqs_rule_laws.specs.SlotSteps.{Swapped};
 ghost use Rattle.cqs_pool.specs.Calls.{IsMine, size_of};
-ghost use Rattle.cqs_pool_values.specs.Pools.{Belongs, Opens, HoldsEach, IsBadConfig};
+ghost use Rattle.cqs_pool_values.specs.Pools.{Belongs, Opens, HoldsEach, BeginsEach, IsBadConfig};
 
 use cqs_pool::{Pool, PoolPass};
 use cqs_rule::{Config, Kept, MakeError};
@@ -95,6 +95,7 @@ fn fill<T: Send + Drop>(pool: &Pool<Kept<T>>, pass: &mut PoolPass<Kept<T>>, valu
     ensures belongs { IsMine pool.now pass.new }
     ensures swapped { Swapped [] (pass_view pass.old) (pass_view pass.new) }
     ensures filled { HoldsEach values.items (pass_view pass.new).handed }
+    ensures begins { BeginsEach values.items (pass_view pass.new).handed }
 {
     let mut slot: u32 = 0;
     for value in values {

@@ -5,7 +5,8 @@ ghost use Rattle.cqs_rule_laws.specs.Crew.{IsBetween};
 ghost use Rattle.cqs_rule.specs.Claims.{Crowds};
 ghost use Rattle.cqs_rule.specs.Owed.{HasUnder, under_payload, under_reached};
 ghost use Rattle.cqs_rule.specs.Passes.{ample_of, pass_view};
-ghost use Rattle.cqs_rule_laws.specs.SlotSteps.{WasHandedIn};
+ghost use Rattle.cqs_rule_laws.specs.SlotSteps.{WasHandedBy};
+ghost use Rattle.cqs_pool.specs.Pool.{pool_object};
 ghost use Rattle.cqs_pool.specs.Alone.{CanEnd, IsPlainEnd};
 ghost use Rattle.cqs_pool.specs.Answers.{Ends, IsInHand};
 ghost use Rattle.cqs_rule_laws.specs.CallRule.{IsReady};
@@ -38,8 +39,8 @@ impl<T: Send + Drop> ValuePool<T> {
         ensures ready { OnErr result (IsReady (pass_view pass.new).facts) }
         ensures put { IfOk result (λ placed. HasPut (number_of item) (value_of item)
             (pass_view pass.old) placed (pass_view pass.new)) }
-        ensures handed { OnOk result (WasHandedIn (number_of item) (in_slot (value_of item))
-            (pass_view pass.old) (pass_view pass.new)) }
+        ensures handed { OnOk result (WasHandedBy pool_object (number_of item)
+            (in_slot (value_of item)) (pass_view pass.old) (pass_view pass.new)) }
         ensures between { IsBetween (pass_view pass.new).facts }
         ensures leaves { IfOk result (λ placed. PutLeaves (number_of item) (pass_view pass.old)
             placed (pass_view pass.new)) }

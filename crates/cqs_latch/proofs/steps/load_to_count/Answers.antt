@@ -1,5 +1,9 @@
-use Rattle.cqs_latch.proofs.LatchMoves.{count-load-moves}
+use Rattle.cqs_latch.proofs.LatchMoves.{count-load-moves, none-stays}
+use Rattle.cqs_rule.specs.Passes.{pass_view}
 use Rattle.cqs_latch.proofs.steps.load_to_count.Goals as goal
 
 pub load_word-requires-clause-law : goal.load_word-requires-clause-law
 load_word-requires-clause-law g c = count-load-moves _ _ _ _ _ c.requires.idle
+
+pub load_word-requires-clause-slots : goal.load_word-requires-clause-slots
+load_word-requires-clause-slots g c = none-stays _ _ _ _ _ (pass_view c.args.pass.now)

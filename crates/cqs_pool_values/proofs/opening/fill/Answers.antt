@@ -4,7 +4,7 @@ use Rattle.std.specs.Vec.Iter.{into_iter_items}
 use Rattle.cqs_rule.specs.Passes.{pass_view, slots_of, IsOf}
 use Rattle.cqs_rule_laws.specs.Slots.{laid_in, handed_in}
 use Rattle.cqs_pool_values.specs.Values.{in_slot}
-use Rattle.cqs_pool_values.proofs.Values.{swapped-more, none-there, holds-more, empty-more}
+use Rattle.cqs_pool_values.proofs.Values.{swapped-more, none-there, holds-more, begins-more, empty-more}
 use Rattle.cqs_pool_values.proofs.opening.fill.Goals as goal
 
 pub loop-value-init : goal.loop-value-init
@@ -18,6 +18,7 @@ loop-value-init g c =
       slot = refl;
       all = all;
       filled = λ e value there. absurd (none-there e value there);
+      begins = λ e value there. absurd (none-there e value there);
       empty = λ k above. ap (λ l. handed_in l k) c.requires.empty;
     }
 
@@ -60,5 +61,6 @@ loop-value-preserved g c =
       all = append_assoc c.loop-value.yielded (c.in-Some.value ∷ []) _
           ∙ (ap (λ l. c.loop-value.yielded ++ l) (sym c.in-Some.ensures.steps.0) ∙ i.all);
       filled = holds-more _ _ _ _ _ i.slot now i.filled;
+      begins = begins-more _ _ _ _ _ i.slot now (i.empty c.loop-value.slot (omega arith)) i.begins;
       empty = empty-more _ _ _ _ now i.empty;
     }

@@ -4,7 +4,7 @@ use Rattle.cqs_rule.specs.Passes.{pass_view}
 use Rattle.cqs_rule_laws.specs.Slots.{handed_in}
 use Rattle.cqs_rule_laws.specs.SlotSteps.{Swapped}
 use Rattle.cqs_pool.specs.Calls.{IsMine}
-use Rattle.cqs_pool_values.specs.Pools.{HoldsEach}
+use Rattle.cqs_pool_values.specs.Pools.{HoldsEach, BeginsEach}
 use Rattle.cqs_pool_values.proofs.opening.fill.Given as goal
 
 -- the slots of those that came so far hold their values, and each other one is empty
@@ -15,5 +15,6 @@ invariant-loop-value g l = record {
   slot : l.slot ≡ length l.yielded;
   all : l.yielded ++ into_iter_items l.value-iterator ≡ l.fn.values.items;
   filled : HoldsEach l.yielded (pass_view l.pass).handed;
+  begins : BeginsEach l.yielded (pass_view l.pass).handed;
   empty : (k : ℕ) → l.slot ≤ k → handed_in (pass_view l.pass).handed k ≡ None;
 }

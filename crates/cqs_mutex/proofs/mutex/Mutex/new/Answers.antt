@@ -1,5 +1,6 @@
-use Rattle.std.proofs.Common.{◌∙◌, ap, sym, subst}
+use Rattle.std.proofs.Common.{◌∙◌, ap, sym, subst, ◌++◌, ◌∷◌, []}
 use Rattle.cqs_mutex.specs.Mutexes.{IsFilled}
+use Rattle.cqs_mutex.specs.Values.{in_slot}
 use Rattle.cqs_rule.specs.Passes.{IsOf}
 use Rattle.cqs_mutex.proofs.Values.{filled-last}
 use Rattle.cqs_mutex.proofs.mutex.Mutex.new.Goals as goal
@@ -22,7 +23,7 @@ returns-clause-opens g c =
       first = ap (λ z. z.number) is ∙ e.first;
       own = ap (λ z. z.own) is ∙ e.own;
       nothing = ap (λ z. z.seen) is ∙ e.nothing;
-      handed = (h.before, h.is);
+      handed = h.is ∙ ap (λ l. l ++ (0, in_slot c.args.value) ∷ []) (h.whole e.alone ∙ e.empty.0);
       alone = ap (λ z. z.alone) is ∙ e.alone;
       ready = record {
         ready = record {

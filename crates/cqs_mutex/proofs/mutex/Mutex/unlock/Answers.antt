@@ -1,8 +1,8 @@
 use Rattle.std.proofs.Common.{◌∙◌, ap, subst, sym}
 use Rattle.cqs_rule_laws.specs.Slots.{laid_in}
-use Rattle.cqs_rule.specs.Passes.{IsOf}
-use Rattle.cqs_rule_laws.proofs.Lists.{prefix-then}
-use Rattle.cqs_rule_laws.specs.Lists.{IsPrefix}
+use Rattle.cqs_rule.specs.Passes.{pass_view, IsOf}
+use Rattle.cqs_rule_laws.proofs.HandedBy.{was-left, was-swapped}
+use Rattle.cqs_semaphore_client.specs.Semaphore.{semaphore_object}
 use Rattle.cqs_mutex.specs.Mutexes.{IsFilled}
 use Rattle.cqs_mutex.specs.Values.{in_slot}
 use Rattle.cqs_mutex.proofs.Values.{filled-more, filled-last, releases-leave}
@@ -10,23 +10,28 @@ use Rattle.cqs_mutex.proofs.mutex.Mutex.unlock.Goals as goal
 
 pub release-requires-clause-full : goal.release-requires-clause-full
 release-requires-clause-full g c = λ κs lives.
-    (in_slot c.args.guard.value, ap (λ z. laid_in z.laid 0) c.lay.ensures.laid.is)
+    let swap = c.lay.ensures.laid in
+    let is = c.in-Ok.ensures.claimed.left.1.is in
+    let b = c.requires.belongs in
+    let filled = filled-more _ _ (subst IsFilled (sym (ap (λ z. z.handed) is)) b.filled) swap.more in record {
+      value = in_slot c.args.guard.value;
+      laid = ap (λ z. laid_in z.laid 0) swap.is;
+      last = filled.0;
+      filled = filled.1;
+    }
 
 pub returns-clause-handed : goal.returns-clause-handed
 returns-clause-handed g c =
     let swap = c.lay.ensures.laid in
     let h = c.in-Ok-release.ensures.handed (in_slot c.args.guard.value) (ap (λ z. laid_in z.laid 0) swap.is) in
-    let same = ap (λ z. z.handed) c.in-Ok.ensures.claimed.left.1.is in
-    record {
-      before = h.before;
-      old = subst (λ l. IsPrefix l h.before) same (prefix-then _ _ _ swap.more h.old);
-      now = h.now;
-      off = h.off;
-    }
+    let is = c.in-Ok.ensures.claimed.left.1.is in
+    was-left semaphore_object 0 (in_slot c.args.guard.value) _ (pass_view c.claim_spares.new.pass) _
+    (ap (λ z. z.handed) is) (ap (λ z. z.seen) is) (ap (λ z. z.number) is)
+    (was-swapped semaphore_object 0 (in_slot c.args.guard.value) _ (pass_view c.claim_spares.new.pass) _ _ swap h)
 
 pub returns-clause-belongs : goal.returns-clause-belongs
 returns-clause-belongs g c =
-    let h = returns-clause-handed g c in record {
+    let h = (returns-clause-handed g c).handed in record {
       mine = c.release.ensures.belongs;
       filled = filled-more _ _ (filled-last h.before (in_slot c.args.guard.value)) h.now;
       tidy = λ none. h.off;

@@ -15,7 +15,8 @@ put_element-number-requires-clause-value g c = λ low.
     let b = c.requires.belongs in
     let is = c.in-Ok.ensures.claimed.left.1.is in
     full-lays _ _ _ (pass_view c.claim_spares.new.pass)
-    (full-left _ _ (pass_view c.args.pass.now) _ (ap (λ z. z.laid) is) c.requires.full)
+    (full-left _ _ (pass_view c.args.pass.now) _ (ap (λ z. z.laid) is) (ap (λ z. z.handed) is)
+    c.requires.full)
     (subst (λ n. c.args.element.number < n) b.slots low)
 
 pub returns-clause-handed : goal.returns-clause-handed
@@ -23,8 +24,9 @@ returns-clause-handed g c =
     let on = (ends-called _ _ 63 _ _ _
     (c.resume_from.result, c.placed_by.ensures, c.resume_from.ensures.resumed)).0 in
     let is = c.in-Ok.ensures.claimed.left.1.is in
-    gave-left _ _ _ _ _ (ap (λ z. z.laid) is) (ap (λ z. z.handed) is)
-    (gave-value _ _ _ _ _ c.put_element-number.ensures.given on.handed on.unlaid)
+    gave-left _ _ _ _ _ (ap (λ z. z.laid) is) (ap (λ z. z.handed) is) (ap (λ z. z.seen) is) (ap (λ z. z.number) is)
+    (gave-value _ _ _ _ _ _ c.put_element-number.ensures.saw c.put_element-number.ensures.given (on.more, on.seen)
+    on.handed on.unlaid)
 
 pub placed_by-requires : goal.placed_by-requires
 placed_by-requires g c =

@@ -1,16 +1,23 @@
-use Rattle.std.proofs.Common.{Some, ap, sym, subst}
-use Rattle.cqs_rule_laws.specs.Lists.{Has, IsPrefix}
+use Rattle.std.proofs.Common.{◌<◌, Some, ap, sym, subst}
+use Rattle.cqs_rule_laws.specs.Lists.{Has}
 use Rattle.cqs_rule.specs.Passes.{pass_view, IsOf}
-use Rattle.cqs_rule_laws.proofs.Lists.{prefix-then}
-use Rattle.cqs_pool_values.specs.Pools.{AreFilled}
+use Rattle.cqs_rule_laws.proofs.HandedBy.{was-left, was-swapped}
+use Rattle.cqs_pool.specs.Pool.{pool_object}
+use Rattle.cqs_pool_values.specs.Pools.{IsFilled, AreFilled}
 use Rattle.cqs_pool_values.specs.Values.{in_slot}
 use Rattle.cqs_pool_values.proofs.Values.{all-filled, laid-swapped, lays-value, tidy-swapped, tidy-left, tidy-put, ends-slots}
 use Rattle.cqs_pool_values.proofs.opening.ValuePool.put.Goals as goal
 
 pub put-requires-clause-full : goal.put-requires-clause-full
 put-requires-clause-full g c = λ κs lives.
-    lays-value c.args.item.element.number (in_slot c.args.item.value) (pass_view c.claim_spares.new.pass)
-    (pass_view c.lay.new.pass) c.lay.ensures.laid
+    let e = c.args.item.element.number in
+    let v = pass_view c.args.pass.now in
+    let left = c.in-Ok.ensures.claimed.left.1 in
+    let b = c.requires.belongs in
+    let low = b.mine.live.known.low e c.requires.has in
+    lays-value e (in_slot c.args.item.value) (pass_view c.claim_spares.new.pass) (pass_view c.lay.new.pass)
+    c.lay.ensures.laid
+    (subst (IsFilled e) (sym (ap (λ z. z.handed) left.is)) (b.filled e (subst (λ o. e < o.size) b.mine.opening low)))
 
 pub returns-clause-handed : goal.returns-clause-handed
 returns-clause-handed g c =
@@ -19,13 +26,10 @@ returns-clause-handed g c =
     let swap = c.lay.ensures.laid in
     let h = c.in-Ok-put.ensures.handed y
     (laid-swapped e (Some y) (pass_view c.claim_spares.new.pass) (pass_view c.lay.new.pass) swap) in
-    let same = ap (λ z. z.handed) c.in-Ok.ensures.claimed.left.1.is in
-    record {
-      before = h.before;
-      old = subst (λ l. IsPrefix l h.before) same (prefix-then _ _ _ swap.more h.old);
-      now = h.now;
-      off = h.off;
-    }
+    let is = c.in-Ok.ensures.claimed.left.1.is in
+    was-left pool_object e y _ (pass_view c.claim_spares.new.pass) _
+    (ap (λ z. z.handed) is) (ap (λ z. z.seen) is) (ap (λ z. z.number) is)
+    (was-swapped pool_object e y _ (pass_view c.claim_spares.new.pass) _ _ swap h)
 
 pub returns-clause-belongs : goal.returns-clause-belongs
 returns-clause-belongs g c =
@@ -37,7 +41,7 @@ returns-clause-belongs g c =
     let b = c.requires.belongs in
     let left = c.in-Ok.ensures.claimed.left.1 in
     let swap = c.lay.ensures.laid in
-    let h = returns-clause-handed g c in
+    let h = (returns-clause-handed g c).handed in
     let rule = c.in-Ok-put.ensures.called.called in record {
       mine = c.put.ensures.belongs;
       filled = all-filled _ _ _

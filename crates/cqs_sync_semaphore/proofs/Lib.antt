@@ -1,0 +1,8 @@
+mod SyncPasses
+mod Between
+mod AcquireSteps
+mod NeverDelegated
+mod CancelSteps
+mod ResumeSteps
+mod ReleaseSteps
+pub mod Callers

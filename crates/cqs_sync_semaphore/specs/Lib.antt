@@ -1,0 +1,6 @@
+pub mod Calls
+pub mod Owed
+pub mod Entries
+pub mod Answers
+pub mod Steps
+pub mod Callers

@@ -1,9 +1,10 @@
 //! Rounds of the running queue: a semaphore of one permit on its words, with one pass. Each call is
 //! compiled into the loop of its rounds, as in the plain code.
 
-ghost use Rattle.std.specs.Prelude.{◌≡◌, ◌<◌, true, IfSome, IsTrue};
+ghost use Rattle.std.specs.Prelude.{◌≡◌, ◌<◌, true, false, IfSome, IsTrue};
 ghost use Rattle.cqs_core.specs.declared.doings.Doing.TheVariants.{Idle};
-ghost use Rattle.cqs_rule.specs.Passes.{ample_of, pass_view, limit_of, IsOf};
+ghost use Rattle.cqs_rule.specs.Passes.{ample_of, client_of, pass_view, limit_of, IsOf};
+ghost use Rattle.cqs_semaphore_client.specs.SemaphoreMade.{sync_of};
 ghost use Rattle.cqs_bench_calls.specs.Waits.{KeepsWaits, HasItsWait};
 
 use cqs_cancel::{Left, cancel};
@@ -20,6 +21,7 @@ pub const LIMIT: u64 = 1 << 20;
 #[inline(always)]
 fn acquire(queue: &Queue<SemClient>, pass: &mut Pass<SemClient>) -> Option<Wait>
     requires belongs { IsOf queue.now pass.old }
+    requires plain { sync_of (client_of queue.now) ≡ false }
     requires ample { ample_of queue.now ≡ true }
     requires idle { (pass_view pass.old).facts.doing ≡ Idle }
     requires may_draw { (pass_view pass.old).facts.may_draw ≡ true }
@@ -42,6 +44,7 @@ fn acquire(queue: &Queue<SemClient>, pass: &mut Pass<SemClient>) -> Option<Wait>
 #[inline(always)]
 fn release(queue: &Queue<SemClient>, pass: &mut Pass<SemClient>) -> bool
     requires belongs { IsOf queue.now pass.old }
+    requires plain { sync_of (client_of queue.now) ≡ false }
     requires ample { ample_of queue.now ≡ true }
     requires idle { (pass_view pass.old).facts.doing ≡ Idle }
     ensures belongs { IsOf queue.now pass.new }
@@ -63,6 +66,7 @@ fn release(queue: &Queue<SemClient>, pass: &mut Pass<SemClient>) -> bool
 // A permit is free: it is taken and given back. It answers whether rounds go on.
 fn free_round(queue: &Queue<SemClient>, pass: &mut Pass<SemClient>) -> bool
     requires belongs { IsOf queue.now pass.old }
+    requires plain { sync_of (client_of queue.now) ≡ false }
     requires ample { ample_of queue.now ≡ true }
     requires limit { limit_of queue.now ≡ 1048576 }
     requires idle { (pass_view pass.old).facts.doing ≡ Idle }
@@ -82,6 +86,7 @@ fn free_round(queue: &Queue<SemClient>, pass: &mut Pass<SemClient>) -> bool
 // answers whether rounds go on.
 fn pair_round(queue: &Queue<SemClient>, pass: &mut Pass<SemClient>) -> bool
     requires belongs { IsOf queue.now pass.old }
+    requires plain { sync_of (client_of queue.now) ≡ false }
     requires ample { ample_of queue.now ≡ true }
     requires limit { limit_of queue.now ≡ 1048576 }
     requires idle { (pass_view pass.old).facts.doing ≡ Idle }
@@ -106,6 +111,7 @@ fn pair_round(queue: &Queue<SemClient>, pass: &mut Pass<SemClient>) -> bool
 // rounds go on.
 fn leave_round(queue: &Queue<SemClient>, pass: &mut Pass<SemClient>) -> bool
     requires belongs { IsOf queue.now pass.old }
+    requires plain { sync_of (client_of queue.now) ≡ false }
     requires ample { ample_of queue.now ≡ true }
     requires limit { limit_of queue.now ≡ 1048576 }
     requires idle { (pass_view pass.old).facts.doing ≡ Idle }
@@ -118,6 +124,18 @@ fn leave_round(queue: &Queue<SemClient>, pass: &mut Pass<SemClient>) -> bool
     let Some(wait) = acquire(queue, pass) else {
         return true;
     };
+    leave(queue, pass, wait)
+}
+
+// Leaves the line, and answers whether nothing is owed by that.
+#[inline(always)]
+fn leave(queue: &Queue<SemClient>, pass: &mut Pass<SemClient>, wait: Wait) -> bool
+    requires belongs { IsOf queue.now pass.old }
+    requires idle { (pass_view pass.old).facts.doing ≡ Idle }
+    requires waits { HasItsWait wait pass.old }
+    ensures belongs { IsOf queue.now pass.new }
+    ensures idle { IsTrue result → (pass_view pass.new).facts.doing ≡ Idle }
+{
     match cancel(queue, pass, wait) {
         Left::Gone => true,
         Left::Late(_) => true,
@@ -128,6 +146,7 @@ fn leave_round(queue: &Queue<SemClient>, pass: &mut Pass<SemClient>) -> bool
 /// In each round a permit that is free is taken and given back.
 pub fn free_rounds(queue: &Queue<SemClient>, pass: &mut Pass<SemClient>, count: u64)
     requires belongs { IsOf queue.now pass.old }
+    requires plain { sync_of (client_of queue.now) ≡ false }
     requires ample { ample_of queue.now ≡ true }
     requires limit { limit_of queue.now ≡ 1048576 }
     requires idle { (pass_view pass.old).facts.doing ≡ Idle }
@@ -143,6 +162,7 @@ pub fn free_rounds(queue: &Queue<SemClient>, pass: &mut Pass<SemClient>, count: 
 /// gives it back, and is served.
 pub fn pair_rounds(queue: &Queue<SemClient>, pass: &mut Pass<SemClient>, count: u64)
     requires belongs { IsOf queue.now pass.old }
+    requires plain { sync_of (client_of queue.now) ≡ false }
     requires ample { ample_of queue.now ≡ true }
     requires limit { limit_of queue.now ≡ 1048576 }
     requires idle { (pass_view pass.old).facts.doing ≡ Idle }
@@ -158,6 +178,7 @@ pub fn pair_rounds(queue: &Queue<SemClient>, pass: &mut Pass<SemClient>, count: 
 /// leaves the line again.
 pub fn leave_rounds(queue: &Queue<SemClient>, pass: &mut Pass<SemClient>, count: u64)
     requires belongs { IsOf queue.now pass.old }
+    requires plain { sync_of (client_of queue.now) ≡ false }
     requires ample { ample_of queue.now ≡ true }
     requires limit { limit_of queue.now ≡ 1048576 }
     requires idle { (pass_view pass.old).facts.doing ≡ Idle }

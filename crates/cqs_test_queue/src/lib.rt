@@ -19,4 +19,6 @@ mod seats;
 #[cfg(test)]
 mod segments;
 #[cfg(test)]
+mod synchronous;
+#[cfg(test)]
 mod threads;

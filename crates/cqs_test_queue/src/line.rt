@@ -1,10 +1,11 @@
 //! The one pass of a queue of one permit: how it comes to wait in line, and how it sends the permit
 //! there.
 
-ghost use Rattle.std.specs.Prelude.{◌≡◌, ◌<◌, IfOk, IsTrue, true};
+ghost use Rattle.std.specs.Prelude.{◌≡◌, ◌<◌, IfOk, IsTrue, true, false};
 ghost use Rattle.cqs_core.specs.declared.doings.Doing.TheVariants.{Door, Idle, Owes};
-ghost use Rattle.cqs_rule.specs.Passes.{ample_of, pass_view, IsOf};
+ghost use Rattle.cqs_rule.specs.Passes.{ample_of, client_of, pass_view, IsOf};
 ghost use Rattle.cqs_rule.specs.Waits.{HasWait, place_of};
+ghost use Rattle.cqs_semaphore_client.specs.SemaphoreMade.{sync_of};
 ghost use Rattle.cqs_words.specs.State.{is_below_zero};
 
 use cqs_resume::{Resumed, resume};
@@ -28,6 +29,7 @@ pub fn alone(alloc: Global) -> Result<(Queue<SemClient>, Pass<SemClient>), MakeE
     ensures idle { IfOk result (λ made. (pass_view made.1).facts.doing ≡ Idle) }
     ensures may_draw { IfOk result (λ made. (pass_view made.1).facts.may_draw ≡ true) }
     ensures ample { IfOk result (λ made. ample_of made.0 ≡ true) }
+    ensures plain { IfOk result (λ made. sync_of (client_of made.0) ≡ false) }
 {
     Queue::ample(alloc, CONFIG, CancelMode::Smart, SemClient::new(1))
 }
@@ -60,6 +62,7 @@ pub fn come(rt: &impl Abort, queue: &Queue<SemClient>, pass: &mut Pass<SemClient
 /// Comes to the door, and waits in line.
 pub fn wait(rt: &impl Abort, queue: &Queue<SemClient>, pass: &mut Pass<SemClient>) -> Wait
     requires belongs { IsOf queue.now pass.old }
+    requires plain { sync_of (client_of queue.now) ≡ false }
     requires ample { ample_of queue.now ≡ true }
     requires idle { (pass_view pass.old).facts.doing ≡ Idle }
     requires may_draw { (pass_view pass.old).facts.may_draw ≡ true }
@@ -81,6 +84,7 @@ pub fn wait(rt: &impl Abort, queue: &Queue<SemClient>, pass: &mut Pass<SemClient
 /// Waits in line, and gives the permit back, which is owed to the line now.
 pub fn owe(rt: &impl Abort, queue: &Queue<SemClient>, pass: &mut Pass<SemClient>)
     requires belongs { IsOf queue.now pass.old }
+    requires plain { sync_of (client_of queue.now) ≡ false }
     requires ample { ample_of queue.now ≡ true }
     requires idle { (pass_view pass.old).facts.doing ≡ Idle }
     requires may_draw { (pass_view pass.old).facts.may_draw ≡ true }
@@ -103,6 +107,7 @@ pub fn send(
     wait: Wait,
 ) -> Wait
     requires belongs { IsOf queue.now pass.old }
+    requires plain { sync_of (client_of queue.now) ≡ false }
     requires ample { ample_of queue.now ≡ true }
     requires idle { (pass_view pass.old).facts.doing ≡ Idle }
     requires holds { 0 < (pass_view pass.old).facts.has.held }

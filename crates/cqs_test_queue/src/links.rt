@@ -2,8 +2,9 @@
 //! extension, and in a slot that is used again.
 
 ghost use Rattle.cqs_core.specs.declared.doings.Doing.TheVariants.{Idle};
-ghost use Rattle.cqs_rule.specs.Passes.{pass_view, IsOf};
-ghost use Rattle.std.specs.Prelude.{◌≡◌};
+ghost use Rattle.cqs_rule.specs.Passes.{client_of, pass_view, IsOf};
+ghost use Rattle.cqs_semaphore_client.specs.SemaphoreMade.{sync_of};
+ghost use Rattle.std.specs.Prelude.{◌≡◌, false};
 
 use crate::segments::{CONFIG, SCARCE, come, leave_a_segment, wait_in_line};
 use cqs_cancel::{Left, cancel};
@@ -37,6 +38,7 @@ fn named(
 // Behind one who waits, one more comes, and leaves the line.
 fn come_behind_and_leave(rt: &impl Abort, queue: &Queue<SemClient>, pass: &mut Pass<SemClient>)
     requires belongs { IsOf queue.now pass.old }
+    requires plain { sync_of (client_of queue.now) ≡ false }
     requires idle { (pass_view pass.old).facts.doing ≡ Idle }
     ensures belongs { IsOf queue.now pass.new }
     ensures idle { (pass_view pass.new).facts.doing ≡ Idle }
@@ -52,6 +54,7 @@ fn come_behind_and_leave(rt: &impl Abort, queue: &Queue<SemClient>, pass: &mut P
 // So many do.
 fn leave_behind(rt: &impl Abort, queue: &Queue<SemClient>, pass: &mut Pass<SemClient>, many: u64)
     requires belongs { IsOf queue.now pass.old }
+    requires plain { sync_of (client_of queue.now) ≡ false }
     requires idle { (pass_view pass.old).facts.doing ≡ Idle }
     ensures belongs { IsOf queue.now pass.new }
     ensures idle { (pass_view pass.new).facts.doing ≡ Idle }

@@ -2,10 +2,11 @@
 //! are settled, so that it leaves, and its slot is used again; and on a table of few slots, until
 //! none is free.
 
-ghost use Rattle.std.specs.Prelude.{◌≡◌};
+ghost use Rattle.std.specs.Prelude.{◌≡◌, false};
 ghost use Rattle.cqs_core.specs.declared.doings.Doing.TheVariants.{Door, Idle};
-ghost use Rattle.cqs_rule.specs.Passes.{pass_view, IsOf};
+ghost use Rattle.cqs_rule.specs.Passes.{client_of, pass_view, IsOf};
 ghost use Rattle.cqs_rule.specs.Waits.{HasWait};
+ghost use Rattle.cqs_semaphore_client.specs.SemaphoreMade.{sync_of};
 
 use cqs_cancel::{Left, cancel};
 use cqs_rule::{CancelMode, Config, Pass, Queue, Wait};
@@ -65,6 +66,7 @@ fn segments_of_a_table_that_opens(rt: HostRuntime) -> Result<(), Fail> {
 /// before, for the segment of the number.
 pub fn come(rt: &impl Abort, queue: &Queue<SemClient>, pass: &mut Pass<SemClient>) -> Wait
     requires belongs { IsOf queue.now pass.old }
+    requires plain { sync_of (client_of queue.now) ≡ false }
     requires idle { (pass_view pass.old).facts.doing ≡ Idle }
     ensures belongs { IsOf queue.now pass.new }
     ensures idle { (pass_view pass.new).facts.doing ≡ Idle }
@@ -78,6 +80,7 @@ pub fn come(rt: &impl Abort, queue: &Queue<SemClient>, pass: &mut Pass<SemClient
 /// From the door to a wait in line.
 pub fn wait_in_line(rt: &impl Abort, queue: &Queue<SemClient>, pass: &mut Pass<SemClient>) -> Wait
     requires belongs { IsOf queue.now pass.old }
+    requires plain { sync_of (client_of queue.now) ≡ false }
     requires door { (pass_view pass.old).facts.doing ≡ Door }
     ensures belongs { IsOf queue.now pass.new }
     ensures idle { (pass_view pass.new).facts.doing ≡ Idle }
@@ -95,6 +98,7 @@ pub fn wait_in_line(rt: &impl Abort, queue: &Queue<SemClient>, pass: &mut Pass<S
 // One more comes, and leaves the line.
 fn come_and_leave(rt: &impl Abort, queue: &Queue<SemClient>, pass: &mut Pass<SemClient>)
     requires belongs { IsOf queue.now pass.old }
+    requires plain { sync_of (client_of queue.now) ≡ false }
     requires idle { (pass_view pass.old).facts.doing ≡ Idle }
     ensures belongs { IsOf queue.now pass.new }
     ensures idle { (pass_view pass.new).facts.doing ≡ Idle }
@@ -108,6 +112,7 @@ fn come_and_leave(rt: &impl Abort, queue: &Queue<SemClient>, pass: &mut Pass<Sem
 /// As many do as a segment has cells.
 pub fn leave_a_segment(rt: &impl Abort, queue: &Queue<SemClient>, pass: &mut Pass<SemClient>)
     requires belongs { IsOf queue.now pass.old }
+    requires plain { sync_of (client_of queue.now) ≡ false }
     requires idle { (pass_view pass.old).facts.doing ≡ Idle }
     ensures belongs { IsOf queue.now pass.new }
     ensures idle { (pass_view pass.new).facts.doing ≡ Idle }

@@ -1,0 +1,50 @@
+use Rattle.std.proofs.Common.{◌≡◌, ℕ, ◌+◌, [], ◌∷◌, ap, ◌∙◌, rules}
+use Rattle.cqs_rule_laws.specs.Lists.{without}
+use Rattle.cqs_rule.specs.Waits.{place_of}
+use Rattle.cqs_test_sync.proofs.working.wait_for.Goals as goal
+
+-- the one wait was this
+without-one : (k : ℕ) → without k (k ∷ []) ≡ []
+without-one k = search rules
+
+pub returns-in-Granted : goal.returns-in-Granted
+returns-in-Granted c =
+    let waits = c.loop.invariant.waits.0 in
+    let polled = rw c.in-Granted.is at c.poll.ensures.polled in
+    let k = (place_of c.loop.wait).index in
+    record {
+      passed = record {
+        belongs = c.poll.ensures.belongs;
+        ready = c.poll.ensures.ready;
+        held_is = polled.2.held_is ∙ ap (λ n. n + 1) waits.held_is;
+        waits_are = polled.2.waits_are ∙ (ap (without k) waits.waits_are ∙ without-one k);
+      };
+    }
+
+pub returns-in-Cancelled : goal.returns-in-Cancelled
+returns-in-Cancelled c =
+    let waits = c.loop.invariant.waits.0 in
+    let cancelled = rw c.in-Cancelled.is at c.cancel.ensures.cancelled in
+    let k = (place_of c.loop.wait).index in
+    record {
+      passed = record {
+        belongs = c.cancel.ensures.belongs;
+        ready = c.cancel.ensures.ready;
+        held_is = cancelled.4.held_is ∙ waits.held_is;
+        waits_are = cancelled.4.waits_are ∙ (ap (without k) waits.waits_are ∙ without-one k);
+      };
+    }
+
+pub returns-in-TooLate : goal.returns-in-TooLate
+returns-in-TooLate c =
+    let waits = c.loop.invariant.waits.0 in
+    let late = rw c.in-TooLate.is at c.cancel.ensures.cancelled in
+    let k = (place_of c.loop.wait).index in
+    record {
+      passed = record {
+        belongs = c.cancel.ensures.belongs;
+        ready = c.cancel.ensures.ready;
+        held_is = late.3.held_is ∙ ap (λ n. n + 1) waits.held_is;
+        waits_are = late.3.waits_are ∙ (ap (without k) waits.waits_are ∙ without-one k);
+      };
+    }

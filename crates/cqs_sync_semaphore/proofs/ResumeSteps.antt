@@ -39,6 +39,7 @@ use Rattle.cqs_sync_semaphore.specs.Answers.{Ends, WasServed}
 use Rattle.cqs_sync_semaphore.specs.Owed.{HasDrawnPast, IsFurther}
 use Rattle.cqs_sync_semaphore.specs.Steps.{HoldsIfBroken, IsAnswered}
 use Rattle.cqs_sync_semaphore.specs.declared.answers.SyncReleased.{SyncReleased}
+use Rattle.cqs_sync_semaphore.proofs.Delivered.{taken-delivered}
 
 -- to hold a permit out and to look at it shows no entry
 pub watch : IsQuietWatch semaphore_object
@@ -239,6 +240,7 @@ module _ {T : Type 0} where
             words = l.then.words;
             few = taken-few k l;
             held_out = held-before state.Taken k l.then.words [] at.held_out;
+            delivered = taken-delivered k at.held_out.payload w at.held_out.was;
           }),
           rests-at u.facts.has.held at.idle (ap (λ h. h.further) at.has_is ∙ b.further) (ap (λ h. h.held) at.has_is)
               at.waits,

@@ -3,6 +3,7 @@ use Rattle.std.specs.Prelude.{◌≡◌, ◌⊎◌, ℕ, ◌+◌, ◌-◌, ◌�
 use Rattle.cqs_core.specs.declared.cells.CoreState.TheVariants as state
 use Rattle.cqs_core.specs.declared.entries.Entry.{Entry}
 use Rattle.cqs_core.specs.declared.entries.Entry.TheVariants as entry
+use Rattle.cqs_core.specs.Numbered.{IsIn}
 use Rattle.cqs_rule_laws.specs.declared.view.View.{View}
 use Rattle.cqs_rule_laws.specs.Lists.{without}
 use Rattle.cqs_rule.specs.Owed.{HasUnder, under_ticket}
@@ -41,12 +42,13 @@ module _ {T : Type 0} where
     pub waited : CellWas state.Waiter k (entry.Deliver k ∷ []) w
 
   -- The permit was held out in the cell of k, which was found empty, and found there by looks, no
-  -- more than the semaphore asks for; and then it was found to be taken.
+  -- more than the semaphore asks for; and then it was found to be taken. So it was delivered.
   pub record WasTaken (own : List Entry) (k : ℕ) (v w : View Entry T) : Type 0 where
     pub called : CallRule v own [] w
     pub words : List ℕ
     pub few : length words ≤ v.opening.looks
     pub held_out : HeldOut primitive_of state.Taken k words [] v w
+    pub delivered : IsIn (entry.Deliver k) w.seen
 
   -- It was held out there, was found there by just as many looks as the semaphore asks for, and was
   -- taken back.

@@ -1,5 +1,6 @@
-/* Fair primitives that callers can stop waiting for: a semaphore, a mutex, a pool, a count-down
- * latch, and a barrier. No call blocks, sleeps, spins or takes a lock.
+/* Fair primitives that callers can stop waiting for: a semaphore, one that is synchronous, a mutex,
+ * a pool, a count-down latch, and a barrier. No call blocks, sleeps, spins or takes a lock; a
+ * release of the synchronous one looks at its permit a stated number of times at most.
  *
  * Each primitive has passes. A pass is what one caller works with: it holds what it was given, and
  * has waits. Passes are named by numbers below `passes`, and a wait by the number that its call
@@ -36,10 +37,10 @@
  * Proved of the library behind this header: its three exports are safe and end, where the pointer
  * is good; at null `cqs_call` answers so, and else what the call by number answered; and each call
  * by number, `split` and `meet` too, is refused for its cause, or is the primitive's own, with what
- * the primitive answered (crates/cqs_c, crates/cqs_c_numbers, crates/cqs_semaphore, crates/cqs_pool,
- * crates/cqs_latch, crates/cqs_barrier). What `new` has made, what two calls have to do with one
- * another, and so the cause of CQS_NO_PASS and CQS_IN_USE, is tested. This file, and that it fits
- * the exports, is written by hand and tested. */
+ * the primitive answered (crates/cqs_c, crates/cqs_c_numbers, crates/cqs_semaphore,
+ * crates/cqs_sync_semaphore, crates/cqs_pool, crates/cqs_latch, crates/cqs_barrier). What `new` has
+ * made, what two calls have to do with one another, and so the cause of CQS_NO_PASS and CQS_IN_USE,
+ * is tested. This file, and that it fits the exports, is written by hand and tested. */
 #ifndef CQS_H
 #define CQS_H
 #include <stddef.h>
@@ -114,8 +115,15 @@ enum {
     CQS_NO_PARTY = 43,      /* arrive: the pass holds no party; split of a barrier: or fewer than
                                it is to give */
     /* Refused; the pass has what it had, with what it was to give. A later try may succeed. */
-    CQS_CROWDED = 44        /* a call that may wait, or that gives back: there is no slot for the
+    CQS_CROWDED = 44,       /* a call that may wait, or that gives back: there is no slot for the
                                cells of more waits by now. See below, at `new` */
+    /* Done, of a synchronous semaphore. */
+    CQS_BROKE = 45,         /* acquire: a permit was held out under this number, and taken back
+                               before the caller came: the pass has none, and doesn't wait;
+                               release, finish: the caller of this number didn't come while it was
+                               looked for, and the pass has the permit again */
+    CQS_HANDLING = 46       /* release, finish: the caller of this wait is about to leave, and the
+                               rest is owed: finish, once it has left */
 };
 
 /* The name of an answer, in small letters: "now" of CQS_NOW. */
@@ -126,21 +134,23 @@ static inline const char *cqs_answer_name(uint32_t answer) {
         "later", "got", "none free", "contended", "granted", "pending", "cancelled",
         "cancelled owing", "too late", "freed", "sent", "left", "void", "under", "state", "sole",
         "made", "met", "took", "passed", "through", "counted", "last", "last owing", "already",
-        "finished", "no party", "crowded"
+        "finished", "no party", "crowded", "broke", "handling"
     };
     return answer < sizeof names / sizeof names[0] ? names[answer] : "no answer";
 }
 
 /* The exports, by which the functions below are written. `size` is how many permits a semaphore
  * has, how many elements a pool, how often a latch is to be counted down, or how many parties a
- * barrier has; `number` is that of a wait, of an element, or of the given pass of a meet, or how
- * many parties a split gives. `out` is written to where the answer is CQS_NEW. */
+ * barrier has; `looks`, which the synchronous semaphore alone reads, is how often its release looks
+ * at a permit that it holds out; `number` is that of a wait, of an element, or of the given pass of a
+ * meet, or how many parties a split gives. `out` is written to where the answer is CQS_NEW. */
 enum {
     CQS_KIND_SEMAPHORE = 0,
     CQS_KIND_POOL = 1,
     CQS_KIND_LATCH = 2,
     CQS_KIND_SIMPLE_LATCH = 3,
-    CQS_KIND_BARRIER = 4
+    CQS_KIND_BARRIER = 4,
+    CQS_KIND_SYNC_SEMAPHORE = 5
 };
 enum {
     CQS_DO_ENTER = 0,
@@ -155,7 +165,7 @@ enum {
     CQS_DO_MEET = 9
 };
 uint32_t cqs_new(uint32_t kind, uint32_t size, uint32_t passes, uint64_t limit, uint32_t waits,
-                 void **out);
+                 uint32_t looks, void **out);
 struct cqs_answer cqs_call(const void *at, uint32_t what, uint32_t pass, uint64_t number);
 /* Drops all that it holds, and leaves its block to be freed. Null is left alone. */
 void cqs_end(void *at);
@@ -199,7 +209,7 @@ struct cqs_semaphore;
 static inline uint32_t cqs_semaphore_new(uint32_t permits, uint32_t passes, uint64_t limit,
                                          uint32_t waits, struct cqs_semaphore **out) {
     void *made = NULL;
-    uint32_t answer = cqs_new(CQS_KIND_SEMAPHORE, permits, passes, limit, waits, &made);
+    uint32_t answer = cqs_new(CQS_KIND_SEMAPHORE, permits, passes, limit, waits, 0, &made);
     if (answer == CQS_NEW) *out = (struct cqs_semaphore *)made;
     return answer;
 }
@@ -241,6 +251,95 @@ static inline struct cqs_answer cqs_semaphore_meet(const struct cqs_semaphore *s
     return cqs_call(s, CQS_DO_MEET, pass, given);
 }
 
+/* ---- The synchronous semaphore ----
+ *
+ * A semaphore that leaves no permit to a caller unseen. Where a release finds that its caller hasn't
+ * come yet, it holds the permit out for so many looks as the semaphore was made with, and sees it
+ * taken, or takes it back. Then the pass has it again, and may give it to the next one; and that
+ * caller finds it gone, and may acquire again, under a new number.
+ *
+ *     a = cqs_sync_semaphore_release(s, pass);
+ *     for (;; sched_yield()) {
+ *         if (a.answer == CQS_BROKE)
+ *             a = cqs_sync_semaphore_release(s, pass);     // or it is kept
+ *         else if (a.answer == CQS_HANDLING || a.answer == CQS_UNDER)
+ *             a = cqs_sync_semaphore_finish(s, pass);
+ *         else
+ *             break;                                       // it is gone; or CQS_CROWDED
+ *     }
+ *
+ * With 0 looks it is taken back at once, unless its caller comes in between. A caller that has drawn
+ * its number comes in a few steps, so some tens of looks meet nearly all. None of its calls is in
+ * cqs_wait.h: what becomes of a release, who releases has to see.
+ *
+ *     acquire   CQS_NOW, or CQS_LATER with a wait; CQS_BROKE: acquire again; CQS_WORN
+ *               or CQS_CROWDED even if a permit is free
+ *     try       CQS_GOT, CQS_NONE_FREE, or CQS_CONTENDED
+ *     poll      CQS_GRANTED, or CQS_PENDING
+ *     cancel    CQS_CANCELLED, or CQS_TOO_LATE: the pass has the permit
+ *     release   CQS_FREED, CQS_SENT, or CQS_VOID; CQS_BROKE: the pass has it again;
+ *               CQS_HANDLING or CQS_UNDER: finish; CQS_CROWDED
+ *     finish    as release, but CQS_FREED and CQS_CROWDED
+ *     state     CQS_STATE
+ *     sole      CQS_SOLE
+ *     split     CQS_MADE
+ *     meet      CQS_MET: the pass takes in the given one, with the permits that it holds
+ */
+struct cqs_sync_semaphore;
+
+/* permits: 1 to 1048576; looks: up to 1024 */
+static inline uint32_t cqs_sync_semaphore_new(uint32_t permits, uint32_t looks, uint32_t passes,
+                                              uint64_t limit, uint32_t waits,
+                                              struct cqs_sync_semaphore **out) {
+    void *made = NULL;
+    uint32_t answer =
+        cqs_new(CQS_KIND_SYNC_SEMAPHORE, permits, passes, limit, waits, looks, &made);
+    if (answer == CQS_NEW) *out = (struct cqs_sync_semaphore *)made;
+    return answer;
+}
+static inline void cqs_sync_semaphore_drop(struct cqs_sync_semaphore *s) { cqs_drop(s); }
+
+static inline struct cqs_answer cqs_sync_semaphore_acquire(const struct cqs_sync_semaphore *s,
+                                                           uint32_t pass) {
+    return cqs_call(s, CQS_DO_ENTER, pass, 0);
+}
+static inline struct cqs_answer cqs_sync_semaphore_try(const struct cqs_sync_semaphore *s,
+                                                       uint32_t pass) {
+    return cqs_call(s, CQS_DO_TRY, pass, 0);
+}
+static inline struct cqs_answer cqs_sync_semaphore_poll(const struct cqs_sync_semaphore *s,
+                                                        uint32_t pass, uint64_t wait) {
+    return cqs_call(s, CQS_DO_POLL, pass, wait);
+}
+static inline struct cqs_answer cqs_sync_semaphore_cancel(const struct cqs_sync_semaphore *s,
+                                                          uint32_t pass, uint64_t wait) {
+    return cqs_call(s, CQS_DO_CANCEL, pass, wait);
+}
+static inline struct cqs_answer cqs_sync_semaphore_release(const struct cqs_sync_semaphore *s,
+                                                           uint32_t pass) {
+    return cqs_call(s, CQS_DO_LEAVE, pass, 0);
+}
+static inline struct cqs_answer cqs_sync_semaphore_finish(const struct cqs_sync_semaphore *s,
+                                                          uint32_t pass) {
+    return cqs_call(s, CQS_DO_FINISH, pass, 0);
+}
+static inline struct cqs_answer cqs_sync_semaphore_state(const struct cqs_sync_semaphore *s,
+                                                         uint32_t pass) {
+    return cqs_call(s, CQS_DO_STATE, pass, 0);
+}
+static inline struct cqs_answer cqs_sync_semaphore_sole(const struct cqs_sync_semaphore *s,
+                                                        uint32_t pass) {
+    return cqs_call(s, CQS_DO_SOLE, pass, 0);
+}
+static inline struct cqs_answer cqs_sync_semaphore_split(const struct cqs_sync_semaphore *s,
+                                                         uint32_t pass) {
+    return cqs_call(s, CQS_DO_SPLIT, pass, 0);
+}
+static inline struct cqs_answer cqs_sync_semaphore_meet(const struct cqs_sync_semaphore *s,
+                                                        uint32_t pass, uint32_t given) {
+    return cqs_call(s, CQS_DO_MEET, pass, given);
+}
+
 /* ---- The mutex ----
  *
  * A semaphore of one permit. What it guards is the caller's own memory: what a thread has written
@@ -264,7 +363,7 @@ struct cqs_mutex;
 static inline uint32_t cqs_mutex_new(uint32_t passes, uint64_t limit, uint32_t waits,
                                      struct cqs_mutex **out) {
     void *made = NULL;
-    uint32_t answer = cqs_new(CQS_KIND_SEMAPHORE, 1, passes, limit, waits, &made);
+    uint32_t answer = cqs_new(CQS_KIND_SEMAPHORE, 1, passes, limit, waits, 0, &made);
     if (answer == CQS_NEW) *out = (struct cqs_mutex *)made;
     return answer;
 }
@@ -325,7 +424,7 @@ struct cqs_pool;
 static inline uint32_t cqs_pool_new(uint32_t size, uint32_t passes, uint64_t limit, uint32_t waits,
                                     struct cqs_pool **out) {
     void *made = NULL;
-    uint32_t answer = cqs_new(CQS_KIND_POOL, size, passes, limit, waits, &made);
+    uint32_t answer = cqs_new(CQS_KIND_POOL, size, passes, limit, waits, 0, &made);
     if (answer == CQS_NEW) *out = (struct cqs_pool *)made;
     return answer;
 }
@@ -381,7 +480,7 @@ struct cqs_latch;
 static inline uint32_t cqs_latch_of_kind(uint32_t kind, uint32_t count, uint32_t passes,
                                          uint64_t limit, uint32_t waits, struct cqs_latch **out) {
     void *made = NULL;
-    uint32_t answer = cqs_new(kind, count, passes, limit, waits, &made);
+    uint32_t answer = cqs_new(kind, count, passes, limit, waits, 0, &made);
     if (answer == CQS_NEW) *out = (struct cqs_latch *)made;
     return answer;
 }
@@ -448,7 +547,7 @@ struct cqs_barrier;
 static inline uint32_t cqs_barrier_new(uint32_t parties, uint32_t passes, uint64_t limit,
                                        uint32_t waits, struct cqs_barrier **out) {
     void *made = NULL;
-    uint32_t answer = cqs_new(CQS_KIND_BARRIER, parties, passes, limit, waits, &made);
+    uint32_t answer = cqs_new(CQS_KIND_BARRIER, parties, passes, limit, waits, 0, &made);
     if (answer == CQS_NEW) *out = (struct cqs_barrier *)made;
     return answer;
 }

@@ -53,12 +53,15 @@ pub(crate) const LAST_OWING: u32 = 40;
 pub(crate) const ALREADY: u32 = 41;
 pub(crate) const FINISHED: u32 = 42;
 pub(crate) const CROWDED: u32 = 44;
+pub(crate) const BROKE: u32 = 45;
+pub(crate) const HANDLING: u32 = 46;
 
 pub(crate) const KIND_SEMAPHORE: u32 = 0;
 pub(crate) const KIND_POOL: u32 = 1;
 pub(crate) const KIND_LATCH: u32 = 2;
 pub(crate) const KIND_SIMPLE_LATCH: u32 = 3;
 pub(crate) const KIND_BARRIER: u32 = 4;
+pub(crate) const KIND_SYNC_SEMAPHORE: u32 = 5;
 
 pub(crate) const DO_ENTER: u32 = 0;
 pub(crate) const DO_TRY: u32 = 1;
@@ -76,6 +79,7 @@ extern "C" {
         passes: u32,
         limit: u64,
         waits: u32,
+        looks: u32,
         out: *mut *mut Raw,
     ) -> u32;
     pub(crate) fn cqs_call(at: *const Raw, what: u32, pass: u32, number: u64) -> Answer;

@@ -24,6 +24,10 @@
 //! | something that must have happened first, once | [`Latch`] | `count_down` there, `wait` here |
 //! | up to 32 parties that go on together, round after round | [`Barrier`] | `wait` |
 //! | a caller who looks at his wait himself, and wants no table of wakers | [`pass`] | |
+//! | a permit that must not lie about for a caller who is late | [`pass::SyncSemaphore`] | `acquire`, and see what `release` says |
+//!
+//! The last one has no guards, futures and deadlines: its release may have the permit back, which
+//! who releases has to see, and a guard that is dropped has nobody to tell.
 //!
 //! Each call that may wait comes in the same forms:
 //!

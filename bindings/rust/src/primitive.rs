@@ -47,6 +47,18 @@ impl Primitive {
         limit: u64,
         waits: u32,
     ) -> Result<Primitive, MakeError> {
+        Primitive::with_looks(kind, size, passes, limit, waits, 0)
+    }
+
+    /// The same; of a synchronous semaphore a release looks so often at a permit that it holds out.
+    pub(crate) fn with_looks(
+        kind: u32,
+        size: u32,
+        passes: u32,
+        limit: u64,
+        waits: u32,
+        looks: u32,
+    ) -> Result<Primitive, MakeError> {
         let most = match kind {
             ffi::KIND_LATCH | ffi::KIND_SIMPLE_LATCH => MOST_LATCH_LIMIT,
             _ => MOST_LIMIT,
@@ -54,7 +66,7 @@ impl Primitive {
         expect_in(1..=most, "limit", limit)?;
         let mut raw = ptr::null_mut();
         // SAFETY: `raw` is room for a pointer.
-        let answer = unsafe { ffi::cqs_new(kind, size, passes, limit, waits, &mut raw) };
+        let answer = unsafe { ffi::cqs_new(kind, size, passes, limit, waits, looks, &mut raw) };
         match answer {
             ffi::NEW => Ok(Primitive { raw }),
             ffi::MEMORY => Err(MakeError::Memory),

@@ -5,6 +5,10 @@
 //! pass is borrowed for as long as a permit or a wait of it lives, so it never has more than one of
 //! them, nobody else's permit is given back, and no wait is looked at with another pass.
 //!
+//! [`SyncSemaphore`] is here alone. Its release may have the permit back, and who releases has to see
+//! that; so it has no guards, futures and deadlines. A permit of it that is dropped all the
+//! same is given until it is gone.
+//!
 //! What is dropped is ended: a wait leaves the line, a permit is given back, and a pass goes back to
 //! its primitive, for the next caller. What was forgotten, by [`mem::forget`](std::mem::forget), is
 //! ended by the next call with its pass, or when the pass is dropped.
@@ -36,6 +40,10 @@ mod permit;
 mod pool;
 mod semaphore;
 mod shared;
+mod sync_permit;
+mod sync_release;
+mod sync_semaphore;
+mod sync_wait;
 mod wait;
 
 pub use barrier::{Arrival, ArriveError, Barrier, BarrierConfig, Party, PartyEnd, PartyWait};
@@ -45,4 +53,8 @@ pub use mutex::{LockEnd, LockWait, Locked, Mutex, MutexConfig, MutexGuard, Mutex
 pub use permit::{Acquired, Permit, SemaphorePass};
 pub use pool::{Item, Pool, PoolConfig, PoolPass, TakeEnd, TakeWait, Taken};
 pub use semaphore::{Semaphore, SemaphoreConfig};
+pub use sync_permit::{SyncAcquired, SyncPermit, SyncSemaphorePass};
+pub use sync_release::{SyncOwed, SyncReleased};
+pub use sync_semaphore::{SyncSemaphore, SyncSemaphoreConfig};
+pub use sync_wait::{SyncCancelled, SyncWait};
 pub use wait::{Cancelled, Wait};

@@ -33,6 +33,16 @@ enum Has {
     Nothing,
     Wait(u64),
     Permit,
+    /// Of a synchronous semaphore alone: the rest of a release.
+    Owed,
+}
+
+/// What a pass came to by an acquire.
+pub(super) enum Came {
+    Now,
+    Later(u64),
+    /// Of a synchronous semaphore alone.
+    Broke(u64),
 }
 
 /// What became of an acquire.
@@ -89,17 +99,21 @@ impl SemaphorePass {
     }
 
     /// What was forgotten, by `mem::forget`, is ended.
-    fn end_forgotten(&mut self) {
+    pub(super) fn end_forgotten(&mut self) {
         if let Has::Wait(wait) = self.has {
             self.end(wait);
+        }
+        if let Has::Owed = self.has {
+            let is_gone = self.shared.finish_all(self.number);
+            self.has = if is_gone { Has::Nothing } else { Has::Permit };
         }
         if let Has::Permit = self.has {
             self.release();
         }
     }
 
-    /// A permit where one is free, or else a wait for one.
-    pub fn acquire(&mut self) -> Result<Acquired<'_>, WaitError> {
+    /// One acquire, after what was forgotten.
+    pub(super) fn enter(&mut self) -> Result<Came, WaitError> {
         self.end_forgotten();
         if let Has::Permit = self.has {
             // Its own permit couldn't be given back, so no slot is free to wait in.
@@ -109,21 +123,22 @@ impl SemaphorePass {
         match answer.answer {
             ffi::NOW => {
                 self.has = Has::Permit;
-                Ok(Acquired::Now(Permit { pass: self }))
+                Ok(Came::Now)
             }
             ffi::LATER => {
                 let number = answer.number as u64;
                 self.has = Has::Wait(number);
-                Ok(Acquired::Later(Wait::of(self, number)))
+                Ok(Came::Later(number))
             }
+            ffi::BROKE => Ok(Came::Broke(answer.number as u64)),
             ffi::WORN => Err(WaitError::Worn),
             ffi::CROWDED => Err(WaitError::Crowded),
             other => unreachable!("an acquire was answered {other}"),
         }
     }
 
-    /// A permit where one is free. It never waits.
-    pub fn try_acquire(&mut self) -> Result<Permit<'_>, TryError> {
+    /// One try, after what was forgotten.
+    pub(super) fn take_free(&mut self) -> Result<(), TryError> {
         self.end_forgotten();
         if let Has::Permit = self.has {
             return Err(TryError::NoneFree);
@@ -132,12 +147,39 @@ impl SemaphorePass {
         match answer.answer {
             ffi::GOT => {
                 self.has = Has::Permit;
-                Ok(Permit { pass: self })
+                Ok(())
             }
             ffi::NONE_FREE => Err(TryError::NoneFree),
             ffi::CONTENDED => Err(TryError::Contended(answer.number)),
             other => unreachable!("a try was answered {other}"),
         }
+    }
+
+    /// One release of its permit, or one finish of what it owes.
+    pub(super) fn give(&mut self, what: u32) -> ffi::Answer {
+        let answer = self.shared.call(what, self.number, 0);
+        self.has = match answer.answer {
+            ffi::FREED | ffi::SENT | ffi::VOID => Has::Nothing,
+            ffi::BROKE | ffi::CROWDED => Has::Permit,
+            ffi::HANDLING | ffi::UNDER => Has::Owed,
+            other => unreachable!("a release was answered {other}"),
+        };
+        answer
+    }
+
+    /// A permit where one is free, or else a wait for one.
+    pub fn acquire(&mut self) -> Result<Acquired<'_>, WaitError> {
+        match self.enter()? {
+            Came::Now => Ok(Acquired::Now(Permit { pass: self })),
+            Came::Later(number) => Ok(Acquired::Later(Wait::of(self, number))),
+            Came::Broke(_) => unreachable!("no permit of a plain semaphore is taken back"),
+        }
+    }
+
+    /// A permit where one is free. It never waits.
+    pub fn try_acquire(&mut self) -> Result<Permit<'_>, TryError> {
+        self.take_free()?;
+        Ok(Permit { pass: self })
     }
 
     /// Acquires, and lets other threads run between two looks at its wait.
@@ -166,7 +208,7 @@ impl SemaphorePass {
 
     /// Gives its permit back. Where there is no slot for that, it is done by the next call with this
     /// pass, or once nobody has the pass.
-    fn release(&mut self) {
+    pub(super) fn release(&mut self) {
         if self.shared.leave(self.number, 0) {
             self.has = Has::Nothing;
         }

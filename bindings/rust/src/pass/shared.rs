@@ -22,9 +22,20 @@ pub(crate) struct Shared {
 impl Shared {
     /// The primitive of this kind, with so many passes, each of which has one wait at most.
     pub(crate) fn new(kind: u32, size: u32, passes: u32, limit: u64) -> Result<Shared, MakeError> {
+        Shared::with_looks(kind, size, passes, limit, 0)
+    }
+
+    /// The same; of a synchronous semaphore a release looks so often at a permit that it holds out.
+    pub(crate) fn with_looks(
+        kind: u32,
+        size: u32,
+        passes: u32,
+        limit: u64,
+        looks: u32,
+    ) -> Result<Shared, MakeError> {
         expect_in(1..=31, "passes", passes.into())?;
         // One pass more: pass 0 makes the others, and is nobody's.
-        let primitive = Primitive::new(kind, size, passes + 1, limit, 1)?;
+        let primitive = Primitive::with_looks(kind, size, passes + 1, limit, 1, looks)?;
         let (idle, stuck) = (AtomicU32::new(0), AtomicU32::new(0));
         Ok(Shared { primitive, idle, stuck, elements: Default::default() })
     }
@@ -38,25 +49,34 @@ impl Shared {
         answer
     }
 
-    /// Goes on with what the pass owes, to the end.
-    pub(crate) fn finish_all(&self, pass: u32) {
-        // A resumption may want the slot that another call is just about to give up.
-        while self.primitive.call(ffi::DO_FINISH, pass, 0).answer == ffi::UNDER {
-            std::thread::yield_now();
+    /// Goes on with what the pass owes, to the end, and says whether it is gone: else, of a
+    /// synchronous semaphore alone, its permit was taken back, and the pass has it again.
+    pub(crate) fn finish_all(&self, pass: u32) -> bool {
+        // A resumption may want the slot that another call is just about to give up, or come to a
+        // caller who is about to leave.
+        loop {
+            match self.primitive.call(ffi::DO_FINISH, pass, 0).answer {
+                ffi::UNDER | ffi::HANDLING => std::thread::yield_now(),
+                answer => return answer != ffi::BROKE,
+            }
         }
     }
 
     /// Gives back what the pass has, and says whether there was a slot for it: else the pass has it
-    /// still.
+    /// still. A permit that was taken back is given again.
     pub(crate) fn leave(&self, pass: u32, element: u32) -> bool {
-        match self.primitive.call(ffi::DO_LEAVE, pass, element.into()).answer {
-            ffi::FREED | ffi::SENT | ffi::LEFT | ffi::VOID => true,
-            ffi::UNDER => {
-                self.finish_all(pass);
-                true
+        loop {
+            match self.primitive.call(ffi::DO_LEAVE, pass, element.into()).answer {
+                ffi::FREED | ffi::SENT | ffi::LEFT | ffi::VOID => return true,
+                ffi::UNDER | ffi::HANDLING => {
+                    if self.finish_all(pass) {
+                        return true;
+                    }
+                }
+                ffi::BROKE => std::thread::yield_now(),
+                ffi::CROWDED => return false,
+                other => unreachable!("a release was answered {other}"),
             }
-            ffi::CROWDED => false,
-            other => unreachable!("a release was answered {other}"),
         }
     }
 

@@ -28,6 +28,9 @@ const NO_CALL: u32 = 14;
 const NO_ELEMENT: u32 = 15;
 const NOW: u32 = 16;
 const LATER: u32 = 17;
+const GOT: u32 = 18;
+const NONE_FREE: u32 = 19;
+const GRANTED: u32 = 21;
 const PENDING: u32 = 22;
 const CANCELLED: u32 = 23;
 const TOO_LATE: u32 = 25;
@@ -45,10 +48,12 @@ const COUNTED: u32 = 38;
 const LAST: u32 = 39;
 const ALREADY: u32 = 41;
 
+const KIND_SEMAPHORE: u32 = 0;
 const KIND_POOL: u32 = 1;
 const KIND_LATCH: u32 = 2;
 const KIND_SIMPLE_LATCH: u32 = 3;
 const KIND_BARRIER: u32 = 4;
+const KIND_SYNC_SEMAPHORE: u32 = 5;
 
 const DO_ENTER: u32 = 0;
 const DO_TRY: u32 = 1;
@@ -68,6 +73,7 @@ extern "C" {
         passes: u32,
         limit: u64,
         waits: u32,
+        looks: u32,
         out: *mut *mut c_void,
     ) -> u32;
     fn cqs_call(at: *const c_void, what: u32, pass: u32, number: u64) -> Answer;
@@ -77,7 +83,7 @@ extern "C" {
 
 // The functions of `bindings/c/cqs.h`, which C writes inline.
 unsafe fn cqs_semaphore_new(p: u32, n: u32, limit: u64, waits: u32, at: *mut *mut c_void) -> u32 {
-    cqs_new(0, p, n, limit, waits, at)
+    cqs_new(0, p, n, limit, waits, 0, at)
 }
 unsafe fn cqs_semaphore_end(s: *mut c_void) {
     cqs_end(s)
@@ -172,9 +178,20 @@ struct Primitive(*mut c_void);
 
 impl Primitive {
     fn new(kind: u32, size: u32, passes: u32, limit: u64, waits: u32) -> Primitive {
+        Primitive::with_looks(kind, size, passes, limit, waits, 0)
+    }
+
+    fn with_looks(
+        kind: u32,
+        size: u32,
+        passes: u32,
+        limit: u64,
+        waits: u32,
+        looks: u32,
+    ) -> Primitive {
         let mut at = std::ptr::null_mut();
         // SAFETY: `at` is room for a pointer.
-        assert_eq!(unsafe { cqs_new(kind, size, passes, limit, waits, &mut at) }, 0);
+        assert_eq!(unsafe { cqs_new(kind, size, passes, limit, waits, looks, &mut at) }, 0);
         Primitive(at)
     }
 
@@ -292,12 +309,80 @@ fn those_who_left_are_passed_over_in_one_call() {
     assert_eq!(s.finish(0), bare(OWES_NOTHING));
 }
 
+/// From one thread nobody is late: each caller is in its cell before the next call.
+#[test]
+fn what_a_synchronous_semaphore_refuses() {
+    let new = |permits, passes, limit, waits, looks| {
+        let mut at = std::ptr::null_mut();
+        let kind = KIND_SYNC_SEMAPHORE;
+        // SAFETY: `at` is room for a pointer.
+        let answer = unsafe { cqs_new(kind, permits, passes, limit, waits, looks, &mut at) };
+        assert!(at.is_null());
+        answer
+    };
+    assert_eq!(new(0, 1, 1, 1, 1), BAD_CONFIG);
+    assert_eq!(new(1_048_577, 1, 1, 1, 1), BAD_CONFIG);
+    assert_eq!(new(1, 0, 1, 1, 1), BAD_CONFIG);
+    assert_eq!(new(1, 33, 1, 1, 1), BAD_CONFIG);
+    assert_eq!(new(1, 1, 0, 1, 1), BAD_CONFIG);
+    assert_eq!(new(1, 1, 68_719_476_737, 1, 1), BAD_CONFIG);
+    assert_eq!(new(1, 1, 1, 1_048_577, 1), BAD_CONFIG);
+    assert_eq!(new(1, 1, 1, 1, 1_025), BAD_CONFIG);
+    assert_eq!(new(1, 1, 1, 1, u32::MAX), BAD_CONFIG);
+    for looks in [0, 1, 1_024] {
+        let s = Primitive::with_looks(KIND_SYNC_SEMAPHORE, 1, 3, 300, 2, looks);
+        assert_eq!(s.call(DO_LEAVE, 0, 0), bare(NO_PERMIT));
+        assert_eq!(s.call(DO_FINISH, 0, 0), bare(OWES_NOTHING));
+        assert_eq!(s.call(DO_SPLIT, 0, 0), with(MADE, 1));
+        assert_eq!(s.call(DO_TRY, 0, 0), bare(GOT));
+        assert_eq!(s.call(DO_TRY, 1, 0), bare(NONE_FREE));
+        assert_eq!(s.call(DO_LEAVE, 0, 0), bare(FREED));
+        assert_eq!(s.call(DO_ENTER, 0, 0), bare(NOW));
+        assert_eq!(s.call(DO_ENTER, 1, 0), with(LATER, 0));
+        assert_eq!(s.call(DO_ENTER, 1, 0), with(LATER, 1));
+        assert_eq!(s.call(DO_ENTER, 1, 0), bare(FULL));
+        assert_eq!(s.call(DO_STATE, 0, 0), with(STATE, -2));
+        for what in [DO_POLL, DO_CANCEL] {
+            assert_eq!(s.call(what, 1, 2), bare(NO_WAIT));
+            assert_eq!(s.call(what, 0, 0), bare(NO_WAIT));
+        }
+        assert_eq!(s.call(DO_POLL, 1, 0), bare(PENDING));
+        assert_eq!(s.call(DO_MEET, 0, 1), bare(BUSY));
+        assert_eq!(s.call(DO_LEAVE, 0, 0), with(SENT, 0));
+        assert_eq!(s.call(DO_POLL, 1, 0), bare(GRANTED));
+        assert_eq!(s.call(DO_LEAVE, 1, 0), with(SENT, 1));
+        assert_eq!(s.call(DO_CANCEL, 1, 1), bare(TOO_LATE));
+        // Those who left are passed over in one call.
+        for number in 2..72 {
+            assert_eq!(s.call(DO_ENTER, 0, 0), with(LATER, number));
+            assert_eq!(s.call(DO_CANCEL, 0, number as u64), bare(CANCELLED));
+        }
+        assert_eq!(s.call(DO_ENTER, 0, 0), with(LATER, 72));
+        assert_eq!(s.call(DO_LEAVE, 1, 0), with(SENT, 72));
+        assert_eq!(s.call(DO_FINISH, 1, 0), bare(OWES_NOTHING));
+        assert_eq!(s.call(DO_POLL, 0, 72), bare(GRANTED));
+        assert_eq!(s.call(DO_LEAVE, 0, 0), bare(FREED));
+        assert_eq!(s.call(DO_MEET, 0, 1), bare(MET));
+        assert_eq!(s.call(DO_SOLE, 0, 0), with(SOLE, 1));
+        assert_eq!(s.call(DO_STATE, 0, 0), with(STATE, 1));
+    }
+}
+
+/// All other kinds are made whatever the looks are.
+#[test]
+fn looks_are_of_the_synchronous_semaphore_alone() {
+    for kind in [KIND_SEMAPHORE, KIND_POOL, KIND_LATCH, KIND_SIMPLE_LATCH, KIND_BARRIER] {
+        let made = Primitive::with_looks(kind, 1, 1, 1, 1, u32::MAX);
+        assert_eq!(made.call(DO_SOLE, 0, 0), with(SOLE, 1));
+    }
+}
+
 #[test]
 fn what_a_pool_refuses() {
     for size in [0, 4_097, u32::MAX] {
         let mut at = std::ptr::null_mut();
         // SAFETY: `at` is room for a pointer.
-        assert_eq!(unsafe { cqs_new(KIND_POOL, size, 1, 1, 1, &mut at) }, BAD_CONFIG);
+        assert_eq!(unsafe { cqs_new(KIND_POOL, size, 1, 1, 1, 0, &mut at) }, BAD_CONFIG);
         assert!(at.is_null());
     }
     let p = Primitive::new(KIND_POOL, 2, 3, 300, 2);
@@ -346,7 +431,7 @@ fn what_a_latch_refuses() {
     for kind in [KIND_LATCH, KIND_SIMPLE_LATCH] {
         let mut at = std::ptr::null_mut();
         // SAFETY: `at` is room for a pointer.
-        assert_eq!(unsafe { cqs_new(kind, 1_048_577, 1, 1, 1, &mut at) }, BAD_CONFIG);
+        assert_eq!(unsafe { cqs_new(kind, 1_048_577, 1, 1, 1, 0, &mut at) }, BAD_CONFIG);
         assert!(at.is_null());
         let l = Primitive::new(kind, 2, 3, 200, 2);
         for what in [DO_TRY, DO_STATE] {
@@ -385,7 +470,7 @@ fn what_a_barrier_refuses() {
     for parties in [0, 33, u32::MAX] {
         let mut at = std::ptr::null_mut();
         // SAFETY: `at` is room for a pointer.
-        assert_eq!(unsafe { cqs_new(KIND_BARRIER, parties, 1, 1, 1, &mut at) }, BAD_CONFIG);
+        assert_eq!(unsafe { cqs_new(KIND_BARRIER, parties, 1, 1, 1, 0, &mut at) }, BAD_CONFIG);
         assert!(at.is_null());
     }
     let b = Primitive::new(KIND_BARRIER, 3, 4, 200, 2);
@@ -429,10 +514,10 @@ fn what_a_barrier_refuses() {
 /// What no primitive has.
 #[test]
 fn kinds_and_calls_that_are_not_there() {
-    for kind in [5, u32::MAX] {
+    for kind in [6, u32::MAX] {
         let mut at = std::ptr::null_mut();
         // SAFETY: `at` is room for a pointer.
-        assert_eq!(unsafe { cqs_new(kind, 1, 1, 1, 1, &mut at) }, BAD_CONFIG);
+        assert_eq!(unsafe { cqs_new(kind, 1, 1, 1, 1, 0, &mut at) }, BAD_CONFIG);
         assert!(at.is_null());
     }
     let s = Semaphore::new(1, 2, 10, 2);

@@ -35,6 +35,11 @@ fn they_cross_threads() {
     may_go::<pass::SemaphorePass>();
     may_go::<pass::Permit<'_>>();
     may_go::<pass::Wait<'_>>();
+    may_be_shared::<pass::SyncSemaphore>();
+    may_go::<pass::SyncSemaphorePass>();
+    may_go::<pass::SyncPermit<'_>>();
+    may_go::<pass::SyncWait<'_>>();
+    may_go::<pass::SyncOwed<'_>>();
     may_be_shared::<pass::Mutex<Cell<u32>>>();
     may_go::<pass::MutexPass<u32>>();
     may_be_shared::<pass::Pool<Cell<u32>>>();
@@ -56,6 +61,7 @@ fn they_are_shown() {
     may_be_shown::<(SemaphoreConfig, MutexConfig, PoolConfig, LatchConfig, BarrierConfig)>();
     may_be_shown::<(BarrierWait, CountDown, OwnedPermit, OwnedItem<u32>, OwnedMutexGuard<u32>)>();
     may_be_shown::<(pass::Acquired<'_>, pass::Cancelled<'_>, pass::Locked<'_, u32>)>();
+    may_be_shown::<(pass::SyncAcquired<'_>, pass::SyncCancelled<'_>, pass::SyncReleased<'_>)>();
     may_be_shown::<(pass::Taken<'_, u32>, pass::Entered<'_>, pass::Arrival<'_>, pass::Party)>();
     let semaphore = Semaphore::new(2);
     let permit = semaphore.try_acquire().unwrap();

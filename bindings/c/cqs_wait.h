@@ -18,6 +18,8 @@
  * Those who wait so, and all who give something back, use these calls with the same `sleepers`: a
  * release of cqs.h wakes nobody. Each thread that may call at the same time has a pass of its own,
  * with room for one wait.
+ * The synchronous semaphore has no calls here: what becomes of a permit that it takes back, who
+ * releases has to say.
  *
  * What they answer. A call that comes answers what it did at once, or what became of its wait:
  *

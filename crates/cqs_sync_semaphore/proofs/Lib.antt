@@ -3,6 +3,7 @@ mod Between
 mod AcquireSteps
 mod NeverDelegated
 mod CancelSteps
+mod Delivered
 mod ResumeSteps
 mod ReleaseSteps
 pub mod Callers

@@ -1,12 +1,12 @@
 -- A resumption of a synchronous queue, as a permit's: how it ended, by a call that came to it.
-use Rattle.std.proofs.Common.{◌≡◌, ℕ, ◌+◌, ◌<◌, ◌≤◌, List, [], ◌∷◌, ◌++◌, length, Option, None, sym, refl, ap, ◌∙◌, subst, append_assoc, arith, inl, inr}
+use Rattle.std.proofs.Common.{◌≡◌, ◌≢◌, ℕ, ◌+◌, ◌<◌, ◌≤◌, true, List, [], ◌∷◌, ◌++◌, length, Option, None, sym, refl, ap, ◌∙◌, subst, append_assoc, arith, inl, inr}
 use Rattle.std.proofs.lemmas.List.{append-nil}
 use Rattle.cqs_core.specs.declared.cells.CoreState.{CoreState}
 use Rattle.cqs_core.specs.declared.cells.CoreState.TheVariants as state
 use Rattle.cqs_core.specs.declared.doings.Doing.TheVariants as doing
 use Rattle.cqs_core.specs.declared.entries.Entry.{Entry}
 use Rattle.cqs_core.specs.declared.entries.Entry.TheVariants as entry
-use Rattle.cqs_core.specs.QueueSteps.{ends_refused, serves}
+use Rattle.cqs_core.specs.QueueSteps.{ends_refused, in_sync, leaves_watched, serves}
 use Rattle.cqs_core.specs.SemaphoreNames.{entry_names}
 use Rattle.cqs_rule_laws.specs.declared.view.Opening.{Opening}
 use Rattle.cqs_rule_laws.specs.declared.view.Sighting.{Sighting}
@@ -25,7 +25,7 @@ use Rattle.cqs_resume.specs.Watching.{HeldOut, SawTaken}
 use Rattle.cqs_resume.specs.declared.resumed.Resumed.TheVariants as plain_resumed
 use Rattle.cqs_resume.specs.declared.sync_resumed.SyncResumed.{SyncResumed}
 use Rattle.cqs_resume.specs.declared.sync_resumed.SyncResumed.TheVariants as resumed
-use Rattle.cqs_resume.proofs.Ends.{ended-at}
+use Rattle.cqs_resume.proofs.Ends.{came-at, ended-at}
 use Rattle.cqs_resume.proofs.SyncEnds.{IsQuietWatch, handled-at, has-broken, saw-taken}
 use Rattle.cqs_semaphore_client.specs.Semaphore.{semaphore_object}
 use Rattle.cqs_semaphore_client.specs.SemaphoreMade.{primitive_of}
@@ -39,7 +39,7 @@ use Rattle.cqs_sync_semaphore.specs.Answers.{Ends, WasServed}
 use Rattle.cqs_sync_semaphore.specs.Owed.{HasDrawnPast, IsFurther}
 use Rattle.cqs_sync_semaphore.specs.Steps.{HoldsIfBroken, IsAnswered}
 use Rattle.cqs_sync_semaphore.specs.declared.answers.SyncReleased.{SyncReleased}
-use Rattle.cqs_sync_semaphore.proofs.Delivered.{taken-delivered}
+use Rattle.cqs_sync_semaphore.proofs.Delivered.{taken-delivered, taken-together}
 
 -- to hold a permit out and to look at it shows no entry
 pub watch : IsQuietWatch semaphore_object
@@ -211,6 +211,23 @@ module _ {T : Type 0} where
     taken-few k l = subst (λ n. length l.then.words ≤ n)
         (ap (λ (o : Opening). o.looks) (l.left.called.same.opening ∙ b.called.same.opening)) l.then.few_words
 
+    -- Alone, the pass would have seen just what it had as it left the permit in the cell.
+    taken-beside : {ticket : Option ℕ} {payload : ℕ} (k : ℕ)
+        → LeftThen semaphore_object primitive_of (SawTaken semaphore_object primitive_of k) most_passed_over ticket
+        payload k u w → v.alone ≢ true
+    taken-beside {ticket} {payload} k l = λ alone.
+        let m = l.from in
+        let left = came-at semaphore_object primitive_of quiet (doing.Watching k) (in_sync leaves_watched) state.Empty
+        most_passed_over ticket payload k u m l.left in
+        let taken = saw-taken semaphore_object primitive_of quiet watch most_passed_over ticket payload k u w
+        (λ p payload. refl) l in
+        let only : u.alone ≡ true = b.called.same.alone ∙ alone in
+        let same : m.seen ≡ w.seen =
+        (left.called.seen ∙ ap (λ es. u.seen ++ es) (left.called.sole only ∙ sym (taken.called.sole only)))
+        ∙ sym taken.called.seen in
+        taken-together k left.cell.payload taken.held_out.payload m w same
+        (left.called.same.opening ∙ sym taken.called.same.opening) left.cell.was taken.held_out.was
+
     -- it was handed back, as a semaphore's is
     handed-back : (ticket : Option ℕ) (payload : ℕ) (number : Option ℕ) (t : token.Under) (a : SyncReleased)
         → IsAnswered number (resumed.Under t) a
@@ -241,6 +258,7 @@ module _ {T : Type 0} where
             few = taken-few k l;
             held_out = held-before state.Taken k l.then.words [] at.held_out;
             delivered = taken-delivered k at.held_out.payload w at.held_out.was;
+            together = taken-beside k l;
           }),
           rests-at u.facts.has.held at.idle (ap (λ h. h.further) at.has_is ∙ b.further) (ap (λ h. h.held) at.has_is)
               at.waits,

@@ -1,5 +1,5 @@
 -- What each call of a synchronous semaphore answers, and why.
-use Rattle.std.specs.Prelude.{◌≡◌, ◌⊎◌, ℕ, ◌+◌, ◌-◌, ◌≤◌, List, [], ◌∷◌, ◌++◌, length, Option, Some}
+use Rattle.std.specs.Prelude.{◌≡◌, ◌≢◌, ◌⊎◌, ℕ, ◌+◌, ◌-◌, ◌≤◌, true, List, [], ◌∷◌, ◌++◌, length, Option, Some}
 use Rattle.cqs_core.specs.declared.cells.CoreState.TheVariants as state
 use Rattle.cqs_core.specs.declared.entries.Entry.{Entry}
 use Rattle.cqs_core.specs.declared.entries.Entry.TheVariants as entry
@@ -42,13 +42,15 @@ module _ {T : Type 0} where
     pub waited : CellWas state.Waiter k (entry.Deliver k ∷ []) w
 
   -- The permit was held out in the cell of k, which was found empty, and found there by looks, no
-  -- more than the semaphore asks for; and then it was found to be taken. So it was delivered.
+  -- more than the semaphore asks for; and then it was found to be taken. So it was delivered, by a
+  -- caller beside this one.
   pub record WasTaken (own : List Entry) (k : ℕ) (v w : View Entry T) : Type 0 where
     pub called : CallRule v own [] w
     pub words : List ℕ
     pub few : length words ≤ v.opening.looks
     pub held_out : HeldOut primitive_of state.Taken k words [] v w
     pub delivered : IsIn (entry.Deliver k) w.seen
+    pub together : v.alone ≢ true
 
   -- It was held out there, was found there by just as many looks as the semaphore asks for, and was
   -- taken back.

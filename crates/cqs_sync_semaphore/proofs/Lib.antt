@@ -6,4 +6,5 @@ mod CancelSteps
 mod Delivered
 mod ResumeSteps
 mod ReleaseSteps
+mod AloneSteps
 pub mod Callers

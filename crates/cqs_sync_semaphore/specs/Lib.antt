@@ -2,5 +2,6 @@ pub mod Calls
 pub mod Owed
 pub mod Entries
 pub mod Answers
+pub mod Alone
 pub mod Steps
 pub mod Callers

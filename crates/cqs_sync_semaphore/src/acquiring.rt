@@ -7,6 +7,7 @@ ghost use Rattle.cqs_rule.specs.Claims.{CanExtend};
 ghost use Rattle.cqs_rule.specs.Passes.{ample_of, pass_view};
 ghost use Rattle.cqs_semaphore.specs.Answers.{IsBelow, IsCrowded, IsWorn};
 ghost use Rattle.cqs_semaphore.specs.Calls.{CallRule};
+ghost use Rattle.cqs_sync_semaphore.specs.Alone.{IsPlainAcquire};
 ghost use Rattle.cqs_sync_semaphore.specs.Answers.{Acquires};
 ghost use Rattle.cqs_sync_semaphore.specs.Calls.{IsMine};
 ghost use Rattle.cqs_sync_semaphore.specs.Entries.{acquired_entries, acquired_further};
@@ -40,6 +41,8 @@ impl<T: Carries + Send> SyncSemaphore<T> {
         ensures acquired { IfOk result
             (λ acquired. Acquires (pass_view pass.old) acquired (pass_view pass.new)) }
         ensures ready { IsReady (pass_view pass.new).facts }
+        ensures alone { (pass_view pass.old).alone ≡ true
+            → IfOk result (λ acquired. IsPlainAcquire (pass_view pass.old) acquired) }
     {
         if next_wait(&self.queue, pass) >= self.queue.limit() {
             return Err(AcquireError::Worn);

@@ -1,9 +1,11 @@
 //! The cancel.
 
-ghost use Rattle.std.specs.Prelude.{◌≡◌};
+ghost use Rattle.std.specs.Prelude.{◌≡◌, true};
 ghost use Rattle.cqs_rule_laws.specs.CallRule.{IsReady};
 ghost use Rattle.cqs_rule.specs.Passes.{pass_view};
 ghost use Rattle.cqs_rule.specs.Waits.{place_of, HasWait};
+ghost use Rattle.cqs_semaphore.specs.Alone.{HasNoneOnWay};
+ghost use Rattle.cqs_sync_semaphore.specs.Alone.{IsPlainCancel};
 ghost use Rattle.cqs_sync_semaphore.specs.Answers.{Cancels};
 ghost use Rattle.cqs_sync_semaphore.specs.Calls.{IsMine};
 
@@ -25,6 +27,10 @@ impl<T: Carries + Send> SyncSemaphore<T> {
         ensures cancelled { Cancels (place_of wait).index (pass_view pass.old) result
             (pass_view pass.new) }
         ensures ready { IsReady (pass_view pass.new).facts }
+        ensures alone { (pass_view pass.old).alone ≡ true
+            → IsPlainCancel (place_of wait).index (pass_view pass.old) result }
+        ensures alone_brings_none { (pass_view pass.old).alone ≡ true
+            → HasNoneOnWay (pass_view pass.new) }
     {
         let number = wait.number();
         match cancel(&self.queue, pass, wait) {

@@ -7,8 +7,9 @@ ghost use Rattle.cqs_rule_laws.specs.Crew.{IsBetween};
 ghost use Rattle.cqs_rule.specs.Claims.{WasCrowded};
 ghost use Rattle.cqs_rule.specs.Owed.{HasUnder, under_reached};
 ghost use Rattle.cqs_rule.specs.Passes.{ample_of, pass_view};
-ghost use Rattle.cqs_semaphore.specs.Calls.{CallRule};
+ghost use Rattle.cqs_semaphore.specs.Calls.{CallRule, plain_after};
 ghost use Rattle.cqs_semaphore.specs.Permits.{number_of};
+ghost use Rattle.cqs_sync_semaphore.specs.Alone.{IsPlainEnd, IsPlainRelease, IsTurnedBack};
 ghost use Rattle.cqs_sync_semaphore.specs.Answers.{Ends, Releases};
 ghost use Rattle.cqs_sync_semaphore.specs.Calls.{IsMine};
 ghost use Rattle.cqs_sync_semaphore.specs.Owed.{number_under, token_of, HasDrawnPast, IsFurther};
@@ -46,6 +47,9 @@ impl<T: Carries + Send> SyncSemaphore<T> {
             (λ released. Releases (number_of permit) (pass_view pass.old) released
             (pass_view pass.new)) }
         ensures between { IsBetween (pass_view pass.new).facts }
+        ensures alone { (pass_view pass.old).alone ≡ true
+            → IfOk result (λ released. IsPlainRelease (pass_view pass.old) released
+            (pass_view pass.new)) }
     {
         let Ok(()) = self.queue.claim_spares(pass, 1) else {
             return Err((permit, Crowded));
@@ -72,6 +76,12 @@ impl<T: Carries + Send> SyncSemaphore<T> {
             → IsFurther (under_reached (token_of under)) result }
         ensures drawn_past { HasDrawnPast (under_reached (token_of under)) result }
         ensures between { IsBetween (pass_view pass.new).facts }
+        ensures alone { (pass_view pass.old).alone ≡ true
+            → (plain_after (pass_view pass.old)).way ≡ 1
+            → IsPlainEnd (pass_view pass.old) result (pass_view pass.new) }
+        ensures alone_turned { (pass_view pass.old).alone ≡ true
+            → (plain_after (pass_view pass.old)).way ≡ 0
+            → IsTurnedBack (pass_view pass.old) result (pass_view pass.new) }
     {
         let Under { token, number } = under;
         let resumed = finish_sync(&self.queue, pass, token);

@@ -3,6 +3,8 @@ use Rattle.cqs_core.specs.declared.entries.Entry.TheVariants as entry
 use Rattle.cqs_rule.specs.Passes.{pass_view}
 use Rattle.cqs_semaphore.proofs.AcquireSteps.{Came, came, is-crowded, was-free, below-now}
 use Rattle.cqs_sync_semaphore.proofs.AcquireSteps.{waits-called, waits-below, waits-acquired}
+use Rattle.cqs_sync_semaphore.proofs.AloneSteps.{plain-acquire, still}
+use Rattle.cqs_sync_semaphore.specs.declared.answers.SyncAcquired.TheVariants.{Now}
 use Rattle.cqs_rule.proofs.Claiming.{called-left}
 use Rattle.cqs_rule_laws.proofs.Calls.{called-by}
 use Rattle.cqs_rule_laws.proofs.Causes.{worn}
@@ -60,6 +62,12 @@ returns-then-is_above_zero-clause-acquired g c =
     (was-free _ _ c.requires.ready (came true _ _ _ _ _ _ (sym c.is_above_zero.ensures ∙ c.if-is_above_zero.true)
     (omega arith) c.next_wait.ensures.saw c.in-Ok.ensures.claimed c.take_permit.ensures.saw))
 
+pub returns-then-is_above_zero-clause-alone : goal.returns-then-is_above_zero-clause-alone
+returns-then-is_above_zero-clause-alone g c = λ alone.
+    plain-acquire _ _ (Now c.permit_by.result)
+    (still _ c.requires.belongs.alone c.args.pass.now.live.0 alone c.requires.ready.idle)
+    (returns-then-is_above_zero-clause-called g c) alone
+
 pub returns-clause-called : goal.returns-clause-called
 returns-clause-called g c =
     let limit = c.limit.ensures in
@@ -86,6 +94,12 @@ returns-clause-acquired g c =
     (came false _ _ _ _ _ _ (sym c.is_above_zero.ensures ∙ c.if-is_above_zero.false)
     (omega arith) c.next_wait.ensures.saw c.in-Ok.ensures.claimed c.take_permit.ensures.saw)
     c.wait_in_line.ensures.waits
+
+pub returns-clause-alone : goal.returns-clause-alone
+returns-clause-alone g c = λ alone.
+    plain-acquire _ _ c.wait_in_line.result
+    (still _ c.requires.belongs.alone c.args.pass.now.live.0 alone c.requires.ready.idle)
+    (returns-clause-called g c) alone
 
 pub returns-in_default-clause-crowded : goal.returns-in_default-clause-crowded
 returns-in_default-clause-crowded g c = λ crowded.

@@ -1,12 +1,9 @@
 -- The calls of a pass that is alone: between two of them nothing is on its way, nobody is at the door, and each broken
 -- number was found so. So each is the plain semaphore's, and comes to no broken number.
-use Rattle.std.proofs.Common.{◌≡◌, ◌≢◌, ℕ, ◌+◌, ◌<◌, true, List, [], ◌∷◌, ◌++◌, length, Option, Some, Ok, inl, inr, slice_get, take, sym, refl, ap, ◌∙◌, subst, append_assoc, arith, take_at}
+use Rattle.std.proofs.Common.{◌≡◌, ℕ, ◌+◌, ◌<◌, true, List, [], ◌∷◌, ◌++◌, length, Option, Some, Ok, inl, inr, slice_get, take, sym, refl, ap, ◌∙◌, subst, append_assoc, arith, take_at, ⊎_elim}
 use Rattle.std.specs.List.{fold}
 use Rattle.std.proofs.lemmas.List.{append-nil}
 use Rattle.std.proofs.lemmas.List.Sums.{fold-append, fold_push}
-use Rattle.std.proofs.lemmas.Option.{same_Some}
-use mathlib.Core.Logic.{dite}
-use native.Mathlib.Decide.{ℕ_discrete}
 use Rattle.cqs_core.specs.declared.doings.Doing.{Doing}
 use Rattle.cqs_core.specs.declared.doings.Doing.TheVariants as doing
 use Rattle.cqs_core.specs.declared.entries.Entry.{Entry}
@@ -21,7 +18,7 @@ use Rattle.cqs_core.specs.SemaphoreShown.{IsCore}
 use Rattle.cqs_core.specs.SemaphoreTable.{Shape}
 use Rattle.cqs_core.proofs.EitherFacts.{either-core, shows-object}
 use Rattle.cqs_core.proofs.IdleLines.{in-placed}
-use Rattle.cqs_core.proofs.Places.{get-append_left, get-push_at, get-below}
+use Rattle.cqs_core.proofs.Places.{get-append_left, get-push_at}
 use Rattle.cqs_core.proofs.QueueAsCancelled.{as_cancelled}
 use Rattle.cqs_core.proofs.Quiet.{nobody-at_door, behind, none-going}
 use Rattle.cqs_core.proofs.RestingCores.{as_plain, rest-core}
@@ -44,6 +41,8 @@ use Rattle.cqs_sync_semaphore.specs.declared.answers.SyncAcquired.{SyncAcquired}
 use Rattle.cqs_sync_semaphore.specs.declared.answers.SyncAcquired.TheVariants.{Now, Later, Broke as Broken}
 use Rattle.cqs_sync_semaphore.specs.declared.answers.SyncReleased.{SyncReleased}
 use Rattle.cqs_sync_semaphore.specs.declared.answers.SyncReleased.TheVariants.{Freed, Sent, Void, Broke, Handling, Under}
+use Rattle.cqs_sync_semaphore.proofs.HandledOut.{TellsOut}
+use Rattle.cqs_sync_semaphore.proofs.LonePasses.{does-alone}
 
 -- nothing is on its way, nobody is at the door, and no caller is still to come to a broken number
 pub record IsStill (o : Semaphore) : Type 0 where
@@ -75,14 +74,7 @@ module _ {T : Type 0} where
       })
     where
       idle-at : (p : ℕ) (d : Doing) → slice_get a.hidden.queue.doing p ≡ Some d → d ≡ doing.Idle
-      idle-at p d there = dite (ℕ_discrete p v.number)
-          (λ (e : p ≡ v.number). same_Some d doing.Idle
-          (sym there ∙ (ap (slice_get a.hidden.queue.doing) e ∙ (a.stands.doing ∙ ap Some idle))))
-          (λ (other : p ≢ v.number).
-          let below = get-below a.hidden.queue.doing p d there in
-          let long = a.places in
-          let r = a.others p other (omega arith) in
-          same_Some d doing.Idle (sym there ∙ (r.stands.doing ∙ ap Some r.idle)))
+      idle-at p d there = ⊎_elim (λ its. its ∙ idle) (λ rests. rests) (does-alone v a p d there)
 
   -- so it is where a pass is alone and idle
   abbrev pub RestsStill : View Entry T → Type 0
@@ -176,43 +168,48 @@ module _ {T : Type 0} where
       by (x ∷ waits) is some = subst HasLine (sym is) tt
 
   pub plain-release : (v w : View Entry T) (number : Option ℕ) (a : SyncReleased) → IsStill (plain_after v)
-      → Releases number v a w → RestsStill w → v.alone ≡ true → IsPlainRelease v a w
-  plain-release v w number Freed still r now alone =
+      → Releases number v a w → RestsStill w → (w.alone ≡ true → TellsOut w a) → v.alone ≡ true → IsPlainRelease v a w
+  plain-release v w number Freed still r now out alone =
       release-alone v w released.Freed still.quiet r.0 r.1 (rests-quiet v w _ _ r.0 alone now) alone
-  plain-release v w number (Sent k) still (wanted, ((inl served), rests)) now alone =
+  plain-release v w number (Sent k) still (wanted, ((inl served), rests)) now out alone =
       let c = served.called in
       release-alone v w (released.Sent k) still.quiet c (wanted, (served.waited, rests))
       (rests-quiet v w _ _ c alone now) alone
-  plain-release v w number (Sent k) still (wanted, ((inr taken), rests)) now alone = absurd (taken.together alone)
-  plain-release v w number (Void k) still (wanted, (c, cell, rests)) now alone =
+  plain-release v w number (Sent k) still (wanted, ((inr taken), rests)) now out alone = absurd (taken.together alone)
+  plain-release v w number (Void k) still (wanted, (c, cell, rests)) now out alone =
       release-alone v w (released.Void k) still.quiet c (wanted, (cell, rests)) (rests-quiet v w _ _ c alone now) alone
-  plain-release v w number (Broke k permit) still (wanted, (broken, same, rests)) now alone =
+  plain-release v w number (Broke k permit) still (wanted, (broken, same, rests)) now out alone =
       never-breaks v w (entry.GiveSent v.number ∷ []) k broken.called alone rests.ready.idle now
-  plain-release v w number (Handling k under) still r now alone = still-sent v w still r.1.0 alone
-  plain-release v w number (Under under) still r now alone = still-sent v w still r.1.0 alone
+  plain-release v w number (Handling k under) still r now out alone =
+      (still-sent v w still r.1.0 alone, out (r.1.0.called.same.alone ∙ alone))
+  plain-release v w number (Under under) still r now out alone = still-sent v w still r.1.0 alone
 
   pub plain-end : (v w : View Entry T) (held : ℕ) (waits : List ℕ) (number : Option ℕ) (a : SyncReleased)
-      → Ends [] held waits number v a w → RestsStill w → v.alone ≡ true → (plain_after v).way ≡ 1 → IsPlainEnd v a w
-  plain-end v w held waits number Freed e now alone one = absurd e
-  plain-end v w held waits number (Sent k) ((inl served), rests) now alone one =
+      → Ends [] held waits number v a w → RestsStill w → (w.alone ≡ true → TellsOut w a) → v.alone ≡ true
+      → (plain_after v).way ≡ 1 → IsPlainEnd v a w
+  plain-end v w held waits number Freed e now out alone one = absurd e
+  plain-end v w held waits number (Sent k) ((inl served), rests) now out alone one =
       let c = served.called in
       end-alone v w (released.Sent k) held waits c (served.waited, rests) (rests-quiet v w _ _ c alone now) alone one
-  plain-end v w held waits number (Sent k) ((inr taken), rests) now alone one = absurd (taken.together alone)
-  plain-end v w held waits number (Void k) (c, cell, rests) now alone one =
+  plain-end v w held waits number (Sent k) ((inr taken), rests) now out alone one = absurd (taken.together alone)
+  plain-end v w held waits number (Void k) (c, cell, rests) now out alone one =
       end-alone v w (released.Void k) held waits c (cell, rests) (rests-quiet v w _ _ c alone now) alone one
-  plain-end v w held waits number (Broke k permit) (broken, same, rests) now alone one =
+  plain-end v w held waits number (Broke k permit) (broken, same, rests) now out alone one =
       never-breaks v w [] k broken.called alone rests.ready.idle now
-  plain-end v w held waits number (Handling k under) e now alone one = after-alone v w [] [] e.0 alone
-  plain-end v w held waits number (Under under) e now alone one = after-alone v w [] [] e.0 alone
+  plain-end v w held waits number (Handling k under) e now out alone one =
+      (after-alone v w [] [] e.0 alone, out (e.0.called.same.alone ∙ alone))
+  plain-end v w held waits number (Under under) e now out alone one = after-alone v w [] [] e.0 alone
 
   pub turned-back : (v w : View Entry T) (held : ℕ) (waits : List ℕ) (number : Option ℕ) (a : SyncReleased)
-      → Ends [] held waits number v a w → RestsStill w → v.alone ≡ true → (plain_after v).way ≡ 0 → IsTurnedBack v a w
-  turned-back v w held waits number Freed e now alone none = absurd e
-  turned-back v w held waits number (Sent k) ((inl served), rests) now alone none =
+      → Ends [] held waits number v a w → RestsStill w → (w.alone ≡ true → TellsOut w a) → v.alone ≡ true
+      → (plain_after v).way ≡ 0 → IsTurnedBack v a w
+  turned-back v w held waits number Freed e now out alone none = absurd e
+  turned-back v w held waits number (Sent k) ((inl served), rests) now out alone none =
       turned-alone v w (released.Sent k) held waits served.called (served.waited, rests) alone none
-  turned-back v w held waits number (Sent k) ((inr taken), rests) now alone none = absurd (taken.together alone)
-  turned-back v w held waits number (Void k) e now alone none = after-alone v w [] [] e.0 alone
-  turned-back v w held waits number (Broke k permit) (broken, same, rests) now alone none =
+  turned-back v w held waits number (Sent k) ((inr taken), rests) now out alone none = absurd (taken.together alone)
+  turned-back v w held waits number (Void k) e now out alone none = after-alone v w [] [] e.0 alone
+  turned-back v w held waits number (Broke k permit) (broken, same, rests) now out alone none =
       never-breaks v w [] k broken.called alone rests.ready.idle now
-  turned-back v w held waits number (Handling k under) e now alone none = after-alone v w [] [] e.0 alone
-  turned-back v w held waits number (Under under) e now alone none = after-alone v w [] [] e.0 alone
+  turned-back v w held waits number (Handling k under) e now out alone none =
+      (after-alone v w [] [] e.0 alone, out (e.0.called.same.alone ∙ alone))
+  turned-back v w held waits number (Under under) e now out alone none = after-alone v w [] [] e.0 alone

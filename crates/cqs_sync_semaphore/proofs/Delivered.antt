@@ -46,7 +46,8 @@ taken-served q k sound taken = by (slice_get q.cells k) refl
     by None finds = absurd (cc (sym taken ∙ ap state_in finds))
     by (Some cell) finds =
         let is : cell.state ≡ state.Taken = sym (ap state_in finds) ∙ taken in
-        let reads : unbroken_state cell.state cell.collected ≡ state.Taken = ap (λ s. unbroken_state s cell.collected) is in
+        let reads : unbroken_state cell.state cell.collected ≡ state.Taken =
+        ap (λ s. unbroken_state s cell.collected) is in
         let here : IsSoundAt (as_unbroken q) k (unbroken_cell cell) state.Taken =
         sound-in (as_unbroken q) k (unbroken_cell cell) state.Taken
         (sound.cells.at k (unbroken_cell cell) (get-map unbroken_cell q.cells k cell finds)) reads in

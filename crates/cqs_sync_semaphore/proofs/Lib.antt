@@ -6,5 +6,7 @@ mod CancelSteps
 mod Delivered
 mod ResumeSteps
 mod ReleaseSteps
+mod LonePasses
+mod HandledOut
 mod AloneSteps
 pub mod Callers

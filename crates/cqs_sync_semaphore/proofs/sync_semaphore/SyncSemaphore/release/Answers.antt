@@ -10,6 +10,7 @@ use Rattle.cqs_sync_semaphore.specs.Answers.{Releases}
 use Rattle.cqs_sync_semaphore.specs.declared.answers.SyncReleased.TheVariants.{Freed}
 use Rattle.cqs_sync_semaphore.proofs.AloneSteps.{plain-release, still}
 use Rattle.cqs_sync_semaphore.proofs.Between.{releases-between}
+use Rattle.cqs_sync_semaphore.proofs.HandledOut.{tells-out}
 use Rattle.cqs_sync_semaphore.proofs.ReleaseSteps.{freed-so, releases}
 use Rattle.cqs_sync_semaphore.proofs.sync_semaphore.SyncSemaphore.release.Goals as goal
 
@@ -32,7 +33,8 @@ returns-then-is_below_zero-clause-alone g c = λ alone.
     plain-release (pass_view c.args.pass.now) (pass_view c.send.new.pass) _ c.send.result
     (still _ c.requires.belongs.alone c.args.pass.now.live.0 alone c.requires.ready.idle)
     (returns-then-is_below_zero-clause-released g c)
-    (still _ c.send.ensures.belongs.alone c.send.new.pass.live.0) alone
+    (still _ c.send.ensures.belongs.alone c.send.new.pass.live.0)
+    (tells-out _ _ _ _ _ c.send.result c.send.ensures.ended (c.send.ensures.belongs.alone c.send.new.pass.live.0)) alone
 
 pub returns-clause-released : goal.returns-clause-released
 returns-clause-released g c =
@@ -44,7 +46,7 @@ pub returns-clause-alone : goal.returns-clause-alone
 returns-clause-alone g c = λ alone.
     plain-release (pass_view c.args.pass.now) (pass_view c.give_permit.new.pass) None Freed
     (still _ c.requires.belongs.alone c.args.pass.now.live.0 alone c.requires.ready.idle) (returns-clause-released g c)
-    (still _ c.give_permit.ensures.belongs.alone c.give_permit.new.pass.live.0) alone
+    (still _ c.give_permit.ensures.belongs.alone c.give_permit.new.pass.live.0) (λ only. tt) alone
 
 -- its permits carry nothing
 pub give_permit-requires-clause-full : goal.give_permit-requires-clause-full

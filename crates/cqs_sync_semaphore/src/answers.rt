@@ -1,7 +1,8 @@
 //! What the calls of a synchronous semaphore answer.
 
 ghost use Rattle.std.specs.Prelude.{◌≡◌};
-ghost use Rattle.cqs_sync_semaphore.specs.Owed.{number_under};
+ghost use Rattle.cqs_rule.specs.Owed.{under_reached};
+ghost use Rattle.cqs_sync_semaphore.specs.Owed.{number_under, token_of};
 
 use cqs_rule::Wait;
 use cqs_semaphore::Permit;
@@ -62,5 +63,12 @@ impl Under {
         ensures { result ≡ number_under self.now }
     {
         self.number
+    }
+
+    /// The last number that was drawn for the resumption, or 0 where none was.
+    pub fn reached(&self) -> u64
+        ensures { result ≡ under_reached (token_of self.now) }
+    {
+        self.token.reached()
     }
 }

@@ -63,3 +63,5 @@ told (answer.LastOwing k) = with_wait 40 k
 told answer.Already = bare 41
 told answer.Finished = bare 42
 told answer.Crowded = bare 44
+told (answer.Broke k) = with_wait 45 k
+told (answer.Handling k) = with_wait 46 k

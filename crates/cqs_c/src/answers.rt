@@ -107,5 +107,7 @@ pub(crate) fn tell(answer: Answer) -> CqsAnswer
         Answer::Already => bare(41),
         Answer::Finished => bare(42),
         Answer::Crowded => bare(44),
+        Answer::Broke(number) => with_wait(45, number),
+        Answer::Handling(number) => with_wait(46, number),
     }
 }

@@ -93,4 +93,9 @@ pub enum Answer {
     Made(u32),
     /// The given pass was taken in, and its number is nobody's now.
     Met,
+    /// A permit was held out in the cell of this number and taken back: of an acquire, by its
+    /// release, and the caller has none; of a release, by this call, and the pass has it again.
+    Broke(u64),
+    /// The waiter of this number is about to leave: the rest is owed, and `finish` goes on.
+    Handling(u64),
 }

@@ -14,6 +14,7 @@ mod tokens;
 mod verb;
 
 pub use answers::Answer;
+pub use places::find;
 pub use pool_caller::PoolCaller;
 pub use semaphore_caller::SemaphoreCaller;
 pub use tokens::{Token, take_out};

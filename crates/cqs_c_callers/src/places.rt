@@ -6,7 +6,7 @@ ghost use Rattle.cqs_c_callers.specs.Waits.{IsAt};
 use cqs_rule::Place;
 
 /// Where the wait of this number stands, if it does.
-pub(crate) fn find(waits: &[Place], number: u64) -> Option<usize>
+pub fn find(waits: &[Place], number: u64) -> Option<usize>
     ensures found { IfSome result (λ i. IsAt number waits.now i) }
     ensures none { result ≡ None → All (λ at. at.index ≢ number) waits.now }
 {

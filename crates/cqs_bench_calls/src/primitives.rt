@@ -12,16 +12,15 @@ mod mutexes;
 mod passed;
 mod pools;
 mod rounds;
-mod rows;
 mod semaphores;
 mod waiting;
 mod wakes;
 
-use crate::primitives::rows::{each, tell};
 use crate::primitives::semaphores::Round;
 use crate::primitives::waiting::Waiting;
 use crate::primitives::wakes::Wakes;
 use crate::words::usage;
+use cqs_bench_rows::{each, tell};
 use std::env::Args;
 use std::process::ExitCode;
 use std::rt::Clock;

@@ -7,9 +7,9 @@ ghost use Rattle.cqs_rule.specs.Passes.{pass_view};
 ghost use Rattle.cqs_bench_calls.specs.Four.{AllFour};
 ghost use Rattle.cqs_bench_calls.specs.Idle.{IsIdleAtBarrier, WaitsAtBarrier};
 
-use crate::primitives::rows::nanoseconds_since;
 use crate::primitives::waiting::{Four, Waiting};
 use cqs_barrier::{Arrived, Barrier, BarrierPass, PartyPolled, PartyWait};
+use cqs_bench_rows::nanoseconds_since;
 use cqs_rule::Config;
 use cqs_waiter::{Looks, Passage, arrive_wait};
 use std::alloc::Global;

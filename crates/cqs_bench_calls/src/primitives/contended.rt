@@ -5,8 +5,8 @@ ghost use Rattle.cqs_rule.specs.Passes.{pass_view};
 ghost use Rattle.cqs_rule.specs.Waits.{HasWait};
 ghost use Rattle.cqs_semaphore.specs.Callers.{IsIdle, IsHolder};
 
-use crate::primitives::rows::nanoseconds_since;
 use crate::primitives::waiting::{Waiting, work};
+use cqs_bench_rows::nanoseconds_since;
 use cqs_rule::{Config, Wait};
 use cqs_semaphore::{Acquired, Permit, Polled, Released, SemPass, Semaphore};
 use cqs_waiter::{Looks, acquire_wait};

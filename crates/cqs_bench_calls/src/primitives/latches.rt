@@ -6,8 +6,8 @@ ghost use Rattle.std.specs.Prelude.{All, IfOk, OnOk};
 ghost use Rattle.cqs_bench_calls.specs.Four.{AllFour};
 ghost use Rattle.cqs_bench_calls.specs.Idle.{IsIdleAtLatch, WaitsAtLatch};
 
-use crate::primitives::rows::nanoseconds_since;
 use crate::primitives::waiting::{Four, Waiting};
+use cqs_bench_rows::nanoseconds_since;
 use cqs_latch::{Down, Latch, LatchPass, LatchPolled, LatchWait};
 use cqs_rule::{CancelMode, Config, Wait};
 use cqs_waiter::{Looks, wait_open};

@@ -7,7 +7,7 @@ ghost use Rattle.cqs_mailbox.specs.Callers.{HasSpare, IsAtRest, IsWaiting};
 ghost use Rattle.cqs_mailbox.specs.Calls.{KeepsWaits};
 ghost use Rattle.cqs_mailbox.specs.Mailboxes.{IsDeskOf, line_view};
 
-use crate::primitives::rows::nanoseconds_since;
+use cqs_bench_rows::nanoseconds_since;
 use cqs_mailbox::{Desk, Envelope, Mailbox, Post, PostWait, Received, Room, RoomPolled};
 use cqs_pool::Placed;
 use cqs_waiter::Looks;

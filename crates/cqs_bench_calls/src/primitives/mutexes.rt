@@ -3,7 +3,7 @@
 ghost use Rattle.std.specs.Prelude.{IsTrue};
 ghost use Rattle.cqs_bench_calls.specs.Idle.{IsIdleAtMutex};
 
-use crate::primitives::rows::nanoseconds_since;
+use cqs_bench_rows::nanoseconds_since;
 use cqs_mutex::{Locked, Mutex, MutexPass};
 use cqs_rule::Config;
 use cqs_semaphore::Released;

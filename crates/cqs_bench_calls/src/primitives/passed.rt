@@ -4,7 +4,7 @@
 ghost use Rattle.cqs_semaphore.specs.Callers.{IsIdle};
 
 use crate::primitives::rounds::{leave_rounds, served_round};
-use crate::primitives::rows::nanoseconds_since;
+use cqs_bench_rows::nanoseconds_since;
 use cqs_rule::Config;
 use cqs_semaphore::{Acquired, SemPass, Semaphore};
 use std::rt::Clock;

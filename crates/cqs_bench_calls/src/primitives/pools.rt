@@ -7,8 +7,8 @@ ghost use Rattle.cqs_rule.specs.Waits.{HasWait};
 ghost use Rattle.cqs_pool_values.specs.Items.{number_of};
 ghost use Rattle.cqs_bench_calls.specs.Idle.{IsIdleAtPool, HasInHand};
 
-use crate::primitives::rows::nanoseconds_since;
 use crate::primitives::waiting::{Waiting, work};
+use cqs_bench_rows::nanoseconds_since;
 use cqs_pool::Placed;
 use cqs_pool_values::{Item, ItemPolled, ItemTaking, ValuePass, ValuePool};
 use cqs_rule::{Config, Wait};

@@ -3,7 +3,7 @@
 ghost use Rattle.cqs_semaphore.specs.Callers.{IsIdle};
 
 use crate::primitives::rounds::{free_rounds, leave_rounds, line_up, served_rounds, stand};
-use crate::primitives::rows::nanoseconds_since;
+use cqs_bench_rows::nanoseconds_since;
 use cqs_rule::Config;
 use cqs_semaphore::{Acquired, SemPass, Semaphore};
 use std::rt::Clock;

@@ -5,7 +5,7 @@ ghost use Rattle.std.specs.Prelude.{◌≡◌, false};
 ghost use Rattle.cqs_semaphore.specs.Callers.{IsIdle};
 
 use crate::primitives::rounds::served_rounds;
-use crate::primitives::rows::nanoseconds_since;
+use cqs_bench_rows::nanoseconds_since;
 use cqs_rule::{Carries, Config};
 use cqs_semaphore::{Acquired, SemPass, Semaphore};
 use std::rt::Clock;

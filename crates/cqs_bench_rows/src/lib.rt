@@ -1,5 +1,6 @@
 //! A row of what was measured: who, what a round is, the threads, the best, median and worst
 //! nanoseconds a round, and the rounds of a run; tabs between them.
+#![tactic(auto)]
 
 use std::rt::Clock;
 use std::time::Instant;

@@ -1,0 +1,4 @@
+pub mod Callers
+pub mod Told
+pub mod Answers
+pub mod Seats

@@ -3,10 +3,10 @@ use Rattle.std.specs.Prelude.{◌≡◌, ℕ, ◌+◌, ◌*◌, ◌/◌, ◌==�
 use Rattle.cqs_rule_laws.specs.declared.config.CancelMode.TheVariants.{Smart, Simple}
 use Rattle.cqs_rule_laws.specs.declared.config.Config.{Config}
 use Rattle.cqs_c_numbers.specs.declared.numbered.Numbered.{Numbered}
-use Rattle.cqs_c_numbers.specs.Making.{IsBarrierOf, IsLatchOf, IsOpen, IsPoolOf, IsSemaphoreOf}
+use Rattle.cqs_c_numbers.specs.Making.{IsBarrierOf, IsLatchOf, IsOpen, IsPoolOf, IsSemaphoreOf, IsSyncSemaphoreOf}
 use Rattle.cqs_c_numbers.specs.Numbered.{primitive_in}
 use Rattle.cqs_c.specs.declared.making.Kind.{Kind}
-use Rattle.cqs_c.specs.declared.making.Kind.TheVariants.{Semaphore, Pool, Latch, Barrier}
+use Rattle.cqs_c.specs.declared.making.Kind.TheVariants.{Semaphore, Pool, Latch, Barrier, SyncSemaphore}
 
 -- the kind of this number
 abbrev pub kind_at : ℕ → Option Kind
@@ -16,6 +16,7 @@ kind_at n =
     else if n == 2 then Some (Latch Smart)
     else if n == 3 then Some (Latch Simple)
     else if n == 4 then Some Barrier
+    else if n == 5 then Some SyncSemaphore
     else None
 
 -- how many slots are wanted: 32 waits stand in one, each pass has two spare ones, a pool's elements
@@ -35,14 +36,17 @@ config_of kind size passes limit waits = record {
 }
 
 -- The primitive is of this kind, and of so many permits, elements, counts or parties; its first
--- pass, under the number 0, has all the parties of a barrier.
-abbrev pub IsOfKind : Option Kind → ℕ → Config → ℕ → Numbered → Type 0
-IsOfKind (Some Semaphore) size config waits n =
+-- pass, under the number 0, has all the parties of a barrier. A synchronous semaphore has so many
+-- looks, too; no other kind has any.
+abbrev pub IsOfKind : Option Kind → ℕ → Config → ℕ → ℕ → Numbered → Type 0
+IsOfKind (Some Semaphore) size config waits looks n =
     IsSemaphoreOf size (primitive_in n) × IsOpen config 0 waits 0 n
-IsOfKind (Some Pool) size config waits n =
+IsOfKind (Some Pool) size config waits looks n =
     IsPoolOf size (primitive_in n) × IsOpen config 0 waits (size + 1) n
-IsOfKind (Some (Latch mode)) size config waits n =
+IsOfKind (Some (Latch mode)) size config waits looks n =
     IsLatchOf size mode (primitive_in n) × IsOpen config 0 waits 0 n
-IsOfKind (Some Barrier) size config waits n =
+IsOfKind (Some Barrier) size config waits looks n =
     IsBarrierOf size (primitive_in n) × IsOpen config size waits 0 n
-IsOfKind None size config waits n = ⊥
+IsOfKind (Some SyncSemaphore) size config waits looks n =
+    IsSyncSemaphoreOf size looks (primitive_in n) × IsOpen config 0 waits 0 n
+IsOfKind None size config waits looks n = ⊥

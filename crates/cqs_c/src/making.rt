@@ -22,6 +22,7 @@ enum Kind {
     Pool,
     Latch(CancelMode),
     Barrier,
+    SyncSemaphore,
 }
 
 fn kind_of(kind: u32) -> Option<Kind>
@@ -33,6 +34,7 @@ fn kind_of(kind: u32) -> Option<Kind>
         2 => Some(Kind::Latch(CancelMode::Smart)),
         3 => Some(Kind::Latch(CancelMode::Simple)),
         4 => Some(Kind::Barrier),
+        5 => Some(Kind::SyncSemaphore),
         _ => None,
     }
 }
@@ -71,21 +73,24 @@ fn config_of(kind: u32, size: u32, passes: u32, limit: u64, waits: u32) -> Confi
 }
 
 // The primitive of this kind: a semaphore of so many permits, a pool of so many elements, a latch
-// that is to be counted down so often, or a barrier of so many parties.
+// that is to be counted down so often, a barrier of so many parties, or a synchronous semaphore,
+// which alone has looks.
 fn make(
     alloc: Global,
     kind: u32,
     size: u32,
     config: Config,
     waits: u32,
+    looks: u32,
 ) -> Result<Numbered, MakeError>
-    ensures made { IfOk result (IsOfKind (kind_at kind) size config waits) }
+    ensures made { IfOk result (IsOfKind (kind_at kind) size config waits looks) }
 {
     match kind_of(kind) {
         Some(Kind::Semaphore) => Numbered::semaphore(alloc, size, config, waits),
         Some(Kind::Pool) => Numbered::pool(alloc, size, config, waits),
         Some(Kind::Latch(mode)) => Numbered::latch(alloc, size, mode, config, waits),
         Some(Kind::Barrier) => Numbered::barrier(alloc, size, config, waits),
+        Some(Kind::SyncSemaphore) => Numbered::sync_semaphore(alloc, size, looks, config, waits),
         None => Err(MakeError::BadConfig),
     }
 }
@@ -98,9 +103,10 @@ fn make_boxed(
     passes: u32,
     limit: u64,
     waits: u32,
+    looks: u32,
 ) -> Result<Box<Numbered>, u32>
     ensures made { IfOk result (λ made. IsOfKind (kind_at kind) size
-        (told_config kind size passes limit waits) waits made.value) }
+        (told_config kind size passes limit waits) waits looks made.value) }
     ensures refused { IfErr result (λ status. (status ≡ 11) ⊎ (status ≡ 13)) }
     ensures bad_config { 32 < passes → result ≡ Err 13 }
 {
@@ -108,7 +114,7 @@ fn make_boxed(
         return Err(BAD_CONFIG);
     }
     let config = config_of(kind, size, passes, limit, waits);
-    let made = match make(alloc, kind, size, config, waits) {
+    let made = match make(alloc, kind, size, config, waits, looks) {
         Ok(made) => made,
         Err(MakeError::BadConfig) => return Err(BAD_CONFIG),
         Err(MakeError::Memory) => return Err(MEMORY),
@@ -120,7 +126,8 @@ fn make_boxed(
 }
 
 /// A primitive of this kind with its first pass, which has number 0, written through `out`. Each
-/// pass has room for so many waits.
+/// pass has room for so many waits. A synchronous semaphore's release looks so often at a permit
+/// that it holds out; no other kind reads `looks`.
 #[unsafe(no_mangle)]
 pub extern "C" fn cqs_new(
     alloc: Global,
@@ -129,13 +136,14 @@ pub extern "C" fn cqs_new(
     passes: u32,
     limit: u64,
     waits: u32,
+    looks: u32,
     out: &mut *mut u8,
 ) -> u32
     ensures told { (result ≡ 0) ⊎ (result ≡ 11) ⊎ (result ≡ 13) }
     ensures bad_config { 32 < passes → result ≡ 13 }
     ensures unchanged { result ≢ 0 → out.new ≡ out.old }
 {
-    match make_boxed(alloc, kind, size, passes, limit, waits) {
+    match make_boxed(alloc, kind, size, passes, limit, waits, looks) {
         Ok(made) => {
             *out = Box::into_raw(made) as *mut u8;
             0

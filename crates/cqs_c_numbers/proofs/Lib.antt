@@ -2,3 +2,4 @@ pub mod MarkSteps
 pub mod BarrierNumber
 pub mod CallNumbers
 pub mod Opens
+pub mod SyncNumber

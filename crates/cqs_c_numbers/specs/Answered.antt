@@ -14,6 +14,7 @@ use Rattle.cqs_c_latch_callers.specs.BarrierAnswers as barrier
 use Rattle.cqs_c_latch_callers.specs.LatchAnswers as latch
 use Rattle.cqs_c_callers.specs.PoolAnswers as pool
 use Rattle.cqs_c_callers.specs.SemaphoreAnswers as semaphore
+use Rattle.cqs_c_sync_callers.specs.Answers as sync
 
 -- a call of this verb, with this number of a wait or an element, led from the one caller to the
 -- other
@@ -26,6 +27,8 @@ Leads (primitive.Latch l) v n (caller.Latch c) a (caller.Latch d) =
     latch.IsAnswered l v n c a d
 Leads (primitive.Barrier b) v n (caller.Barrier c) a (caller.Barrier d) =
     barrier.IsAnswered v n c a d
+Leads (primitive.SyncSemaphore s) v n (caller.SyncSemaphore c) a (caller.SyncSemaphore d) =
+    sync.IsAnswered v n c a d
 Leads _ v n c a d = ⊥
 
 -- The pass of this number was taken by the exchange of its mark, and put back: it stood as a

@@ -2,11 +2,12 @@
 use Rattle.std.specs.Prelude.{◌≡◌, ℕ, ◌+◌, ◌≤◌, [], Some, vec_capacity}
 use Rattle.cqs_rule_laws.specs.declared.config.CancelMode.{CancelMode}
 use Rattle.cqs_rule_laws.specs.declared.config.Config.{Config}
-use Rattle.cqs_rule.specs.Passes.{pass_view, client_of, limit_of, passes_of}
+use Rattle.cqs_rule.specs.Passes.{pass_view, client_of, limit_of, looks_of, passes_of}
 use Rattle.cqs_barrier.specs.Calls.{parties_in}
 use Rattle.cqs_latch.specs.LatchMade.{count_of, mode_of}
 use Rattle.cqs_pool.specs.Calls.{size_of}
 use Rattle.cqs_semaphore.specs.Calls.{permits_in}
+use Rattle.cqs_sync_semaphore.specs.Calls as sync
 use Rattle.cqs_c_numbers.specs.declared.caller.Caller.{Caller}
 use Rattle.cqs_c_numbers.specs.declared.caller.Caller.TheVariants as caller
 use Rattle.cqs_c_numbers.specs.declared.numbered.Numbered.{Numbered}
@@ -21,15 +22,17 @@ passes_in (primitive.Semaphore s) = passes_of s.queue
 passes_in (primitive.Pool p) = passes_of p.queue
 passes_in (primitive.Latch l) = passes_of l.queue
 passes_in (primitive.Barrier b) = passes_of b.queue
+passes_in (primitive.SyncSemaphore s) = passes_of s.queue
 
 abbrev pub limit_in : Primitive → ℕ
 limit_in (primitive.Semaphore s) = limit_of s.queue
 limit_in (primitive.Pool p) = limit_of p.queue
 limit_in (primitive.Latch l) = limit_of l.queue
 limit_in (primitive.Barrier b) = limit_of b.queue
+limit_in (primitive.SyncSemaphore s) = limit_of s.queue
 
 -- it is a semaphore of so many permits, a pool of so many elements, a latch of this count and mode,
--- or a barrier of so many parties
+-- a barrier of so many parties, or a synchronous semaphore of so many permits and looks
 abbrev pub IsSemaphoreOf : ℕ → Primitive → Type 0
 IsSemaphoreOf permits (primitive.Semaphore s) = permits_in s ≡ permits
 IsSemaphoreOf permits _ = ⊥
@@ -47,6 +50,11 @@ abbrev pub IsBarrierOf : ℕ → Primitive → Type 0
 IsBarrierOf parties (primitive.Barrier b) = parties_in b ≡ parties
 IsBarrierOf parties _ = ⊥
 
+abbrev pub IsSyncSemaphoreOf : ℕ → ℕ → Primitive → Type 0
+IsSyncSemaphoreOf permits looks (primitive.SyncSemaphore s) =
+    (sync.permits_in s ≡ permits) × (looks_of s.queue ≡ looks)
+IsSyncSemaphoreOf permits looks _ = ⊥
+
 -- The caller has seen nothing, holds so much, and waits for nothing; there is room for so many
 -- waits, and in a pool for so many elements.
 abbrev pub IsNew : ℕ → ℕ → ℕ → Caller → Type 0
@@ -61,6 +69,9 @@ IsNew held waits elements (caller.Latch c) =
 IsNew held waits elements (caller.Barrier c) =
     ((pass_view c.pass).seen ≡ []) × ((pass_view c.pass).facts.has.held ≡ held)
     × (c.waits.items ≡ []) × (vec_capacity c.waits ≡ waits)
+IsNew held waits elements (caller.SyncSemaphore c) =
+    ((pass_view c.pass).seen ≡ []) × ((pass_view c.pass).facts.has.held ≡ held)
+    × (c.waits.items ≡ []) × (vec_capacity c.waits ≡ waits)
 
 -- for how many segments of cells there is room, as the caller's pass has it
 abbrev pub slots_at : Caller → ℕ
@@ -68,6 +79,7 @@ slots_at (caller.Semaphore c) = (pass_view c.pass).slots
 slots_at (caller.Pool c) = (pass_view c.pass).slots
 slots_at (caller.Latch c) = (pass_view c.pass).slots
 slots_at (caller.Barrier c) = (pass_view c.pass).slots
+slots_at (caller.SyncSemaphore c) = (pass_view c.pass).slots
 
 -- The primitive has as many passes, waits and slots as it was configured for, and as many numbers
 -- of passes. Its first pass lies under the number 0.

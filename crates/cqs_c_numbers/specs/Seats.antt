@@ -13,6 +13,7 @@ use Rattle.cqs_c_latch_callers.specs.BarrierSeats as barrier
 use Rattle.cqs_c_latch_callers.specs.LatchSeats as latch
 use Rattle.cqs_c_callers.specs.PoolSeats as pool
 use Rattle.cqs_c_callers.specs.SemaphoreSeats as semaphore
+use Rattle.cqs_c_sync_callers.specs.Seats as sync
 
 -- why the primitive refuses a split that is to give so many parties, which only a barrier does
 abbrev pub RefusesSplitOf : Primitive → ℕ → Caller → Caller → Answer → Type 0
@@ -23,6 +24,8 @@ RefusesSplitOf (primitive.Latch l) n (caller.Latch c) (caller.Latch d) a =
     latch.RefusesSplit l c d a
 RefusesSplitOf (primitive.Barrier b) n (caller.Barrier c) (caller.Barrier d) a =
     barrier.RefusesSplit b n c d a
+RefusesSplitOf (primitive.SyncSemaphore s) n (caller.SyncSemaphore c) (caller.SyncSemaphore d) a =
+    sync.RefusesSplit s c d a
 RefusesSplitOf _ n c d a = ⊥
 
 -- it does, or there was no memory for another caller
@@ -39,6 +42,8 @@ HasSplit (primitive.Latch l) n (caller.Latch c) (caller.Latch d) (caller.Latch m
     latch.HasSplit l c d m
 HasSplit (primitive.Barrier b) n (caller.Barrier c) (caller.Barrier d) (caller.Barrier m) =
     barrier.HasSplit b n c d m
+HasSplit (primitive.SyncSemaphore s) n (caller.SyncSemaphore c) (caller.SyncSemaphore d)
+    (caller.SyncSemaphore m) = sync.HasSplit s c d m
 HasSplit _ n c d m = ⊥
 
 -- why a meet with the given caller is refused
@@ -47,6 +52,7 @@ RefusesMeet (caller.Semaphore c) (caller.Semaphore given) a = semaphore.RefusesM
 RefusesMeet (caller.Pool c) (caller.Pool given) a = pool.RefusesMeet c given a
 RefusesMeet (caller.Latch c) (caller.Latch given) a = latch.RefusesMeet c given a
 RefusesMeet (caller.Barrier c) (caller.Barrier given) a = barrier.RefusesMeet c given a
+RefusesMeet (caller.SyncSemaphore c) (caller.SyncSemaphore given) a = sync.RefusesMeet c given a
 RefusesMeet _ given a = ⊥
 
 -- the primitive's own meet took the given caller's pass in
@@ -56,6 +62,8 @@ TakesIn (caller.Semaphore c) (caller.Semaphore given) (caller.Semaphore d) =
 TakesIn (caller.Pool c) (caller.Pool given) (caller.Pool d) = pool.TakesIn c given d
 TakesIn (caller.Latch c) (caller.Latch given) (caller.Latch d) = latch.TakesIn c given d
 TakesIn (caller.Barrier c) (caller.Barrier given) (caller.Barrier d) = barrier.TakesIn c given d
+TakesIn (caller.SyncSemaphore c) (caller.SyncSemaphore given) (caller.SyncSemaphore d) =
+    sync.TakesIn c given d
 TakesIn _ given d = ⊥
 
 -- A new caller was laid under the number of its pass, which is told, and which nobody had; or that

@@ -5,6 +5,7 @@ ghost use Rattle.cqs_c_numbers.specs.Callers.{pass_number};
 
 use cqs_c_callers::{PoolCaller, SemaphoreCaller};
 use cqs_c_latch_callers::{BarrierCaller, LatchCaller};
+use cqs_c_sync_callers::SyncSemaphoreCaller;
 
 /// What the number of a pass stands for, by its primitive.
 #[derive(Drop)]
@@ -13,6 +14,7 @@ pub enum Caller {
     Pool(PoolCaller),
     Latch(LatchCaller),
     Barrier(BarrierCaller),
+    SyncSemaphore(SyncSemaphoreCaller),
 }
 
 impl Caller {
@@ -25,6 +27,7 @@ impl Caller {
             Caller::Pool(caller) => caller.pass.number(),
             Caller::Latch(caller) => caller.pass.number(),
             Caller::Barrier(caller) => caller.pass.number(),
+            Caller::SyncSemaphore(caller) => caller.pass.number(),
         }
     }
 }

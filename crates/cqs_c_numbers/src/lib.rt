@@ -9,9 +9,9 @@
 //!
 //! The passes lie in the slots of a table, each with its waits and with what it owes. A call takes
 //! its pass by one exchange on the pass's mark, makes one call of the primitive with it, and puts
-//! it back: no lock, and nobody waits. The callers are those of `cqs_c_callers` and of
-//! `cqs_c_latch_callers`, which refuse what the primitive asks of them by an answer that changes
-//! nothing.
+//! it back: no lock, and nobody waits. The callers are those of `cqs_c_callers`,
+//! `cqs_c_latch_callers` and `cqs_c_sync_callers`, which refuse what the primitive asks of them by
+//! an answer that changes nothing.
 #![tactic(auto)]
 
 mod caller;
@@ -27,5 +27,6 @@ mod threads;
 pub use caller::Caller;
 pub use cqs_c_callers::{Answer, PoolCaller, SemaphoreCaller, Verb};
 pub use cqs_c_latch_callers::{BarrierCaller, LatchCaller, PartyOwes};
+pub use cqs_c_sync_callers::SyncSemaphoreCaller;
 pub use numbered::Numbered;
 pub use primitive::Primitive;

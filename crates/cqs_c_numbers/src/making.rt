@@ -4,7 +4,7 @@ ghost use Rattle.std.specs.Prelude.{◌≡◌, ◌⊎◌, ◌<◌, ◌≤◌, �
 ghost use mathlib.Core.Logic.{◌↔◌};
 ghost use Rattle.cqs_rule_laws.specs.Configured.{is_config};
 ghost use Rattle.cqs_c_numbers.specs.Callers.{StandsAt};
-ghost use Rattle.cqs_c_numbers.specs.Making.{HasOpened, IsBarrierOf, IsLatchOf, IsOpen, IsPoolOf, IsSemaphoreOf};
+ghost use Rattle.cqs_c_numbers.specs.Making.{HasOpened, IsBarrierOf, IsLatchOf, IsOpen, IsPoolOf, IsSemaphoreOf, IsSyncSemaphoreOf};
 ghost use Rattle.cqs_c_numbers.specs.Numbered.{primitive_in};
 
 use crate::caller::Caller;
@@ -15,10 +15,12 @@ use atomic_table::Table;
 use cqs_barrier::Barrier;
 use cqs_c_callers::{Answer, PoolCaller, SemaphoreCaller};
 use cqs_c_latch_callers::{BarrierCaller, LatchCaller};
+use cqs_c_sync_callers::SyncSemaphoreCaller;
 use cqs_latch::Latch;
 use cqs_pool::Pool;
 use cqs_rule::{CancelMode, Config, MakeError};
 use cqs_semaphore::Semaphore;
+use cqs_sync_semaphore::SyncSemaphore;
 use std::alloc::{AllocError, Global};
 
 /// For so many waits of one pass there may be room.
@@ -146,6 +148,38 @@ impl Numbered {
             alloc,
             primitive,
             Caller::Barrier(first),
+            config.passes,
+            waits,
+        )
+    }
+
+    /// A synchronous semaphore with all its permits free, whose release looks so often at a permit
+    /// that it holds out, and its first pass, under the number 0. Each pass has room for so many
+    /// waits.
+    pub fn sync_semaphore(
+        alloc: Global,
+        permits: u32,
+        looks: u32,
+        config: Config,
+        waits: u32,
+    ) -> Result<Numbered, MakeError>
+        ensures bad_config { IsErrOf result MakeError.BadConfig
+            ↔ ((permits ≡ 0) ⊎ (1048576 < permits) ⊎ (1024 < looks) ⊎ (is_config config ≡ false)
+            ⊎ (1048576 < waits)) }
+        ensures made { IfOk result (λ made. IsSyncSemaphoreOf permits looks (primitive_in made)) }
+        ensures open { IfOk result (IsOpen config 0 waits 0) }
+    {
+        if waits > MOST_WAITS || !config.is_in_range() {
+            return Err(MakeError::BadConfig);
+        }
+        let (semaphore, pass) = SyncSemaphore::unparked(alloc, permits, config, looks)?;
+        let room = Vec::with_capacity(alloc, waits as usize)?;
+        let first = SyncSemaphoreCaller::new(&semaphore, pass, room);
+        let primitive = Primitive::SyncSemaphore(semaphore);
+        Numbered::open(
+            alloc,
+            primitive,
+            Caller::SyncSemaphore(first),
             config.passes,
             waits,
         )

@@ -12,6 +12,7 @@ use cqs_latch::Latch;
 use cqs_pool::Pool;
 use cqs_rule::Unparked;
 use cqs_semaphore::Semaphore;
+use cqs_sync_semaphore::SyncSemaphore;
 use std::alloc::Global;
 
 /// A primitive.
@@ -21,6 +22,7 @@ pub enum Primitive {
     Pool(Pool<Unparked>),
     Latch(Latch<Unparked>),
     Barrier(Barrier<Unparked>),
+    SyncSemaphore(SyncSemaphore<Unparked>),
 }
 
 impl Primitive {
@@ -34,19 +36,36 @@ impl Primitive {
         match self {
             Primitive::Semaphore(semaphore) => match caller {
                 Caller::Semaphore(caller) => caller.call(semaphore, verb, number),
-                Caller::Pool(_) | Caller::Latch(_) | Caller::Barrier(_) => unreachable!(),
+                Caller::Pool(_)
+                | Caller::Latch(_)
+                | Caller::Barrier(_)
+                | Caller::SyncSemaphore(_) => unreachable!(),
             },
             Primitive::Pool(pool) => match caller {
                 Caller::Pool(caller) => caller.call(pool, verb, number),
-                Caller::Semaphore(_) | Caller::Latch(_) | Caller::Barrier(_) => unreachable!(),
+                Caller::Semaphore(_)
+                | Caller::Latch(_)
+                | Caller::Barrier(_)
+                | Caller::SyncSemaphore(_) => unreachable!(),
             },
             Primitive::Latch(latch) => match caller {
                 Caller::Latch(caller) => caller.call(latch, verb, number),
-                Caller::Semaphore(_) | Caller::Pool(_) | Caller::Barrier(_) => unreachable!(),
+                Caller::Semaphore(_)
+                | Caller::Pool(_)
+                | Caller::Barrier(_)
+                | Caller::SyncSemaphore(_) => unreachable!(),
             },
             Primitive::Barrier(barrier) => match caller {
                 Caller::Barrier(caller) => caller.call(barrier, verb, number),
-                Caller::Semaphore(_) | Caller::Pool(_) | Caller::Latch(_) => unreachable!(),
+                Caller::Semaphore(_)
+                | Caller::Pool(_)
+                | Caller::Latch(_)
+                | Caller::SyncSemaphore(_) => unreachable!(),
+            },
+            Primitive::SyncSemaphore(semaphore) => match caller {
+                Caller::SyncSemaphore(caller) => caller.call(semaphore, verb, number),
+                Caller::Semaphore(_) | Caller::Pool(_) | Caller::Latch(_) | Caller::Barrier(_) =>
+                    unreachable!(),
             },
         }
     }
@@ -75,7 +94,10 @@ impl Primitive {
                     let made = caller.split(semaphore, room)?;
                     Ok(Caller::Semaphore(made))
                 }
-                Caller::Pool(_) | Caller::Latch(_) | Caller::Barrier(_) => unreachable!(),
+                Caller::Pool(_)
+                | Caller::Latch(_)
+                | Caller::Barrier(_)
+                | Caller::SyncSemaphore(_) => unreachable!(),
             },
             Primitive::Pool(pool) => match caller {
                 Caller::Pool(caller) => {
@@ -88,7 +110,10 @@ impl Primitive {
                     let made = caller.split(pool, room, elements)?;
                     Ok(Caller::Pool(made))
                 }
-                Caller::Semaphore(_) | Caller::Latch(_) | Caller::Barrier(_) => unreachable!(),
+                Caller::Semaphore(_)
+                | Caller::Latch(_)
+                | Caller::Barrier(_)
+                | Caller::SyncSemaphore(_) => unreachable!(),
             },
             Primitive::Latch(latch) => match caller {
                 Caller::Latch(caller) => {
@@ -98,7 +123,10 @@ impl Primitive {
                     let made = caller.split(latch, room)?;
                     Ok(Caller::Latch(made))
                 }
-                Caller::Semaphore(_) | Caller::Pool(_) | Caller::Barrier(_) => unreachable!(),
+                Caller::Semaphore(_)
+                | Caller::Pool(_)
+                | Caller::Barrier(_)
+                | Caller::SyncSemaphore(_) => unreachable!(),
             },
             Primitive::Barrier(barrier) => match caller {
                 Caller::Barrier(caller) => {
@@ -108,7 +136,21 @@ impl Primitive {
                     let made = caller.split(barrier, room, gives)?;
                     Ok(Caller::Barrier(made))
                 }
-                Caller::Semaphore(_) | Caller::Pool(_) | Caller::Latch(_) => unreachable!(),
+                Caller::Semaphore(_)
+                | Caller::Pool(_)
+                | Caller::Latch(_)
+                | Caller::SyncSemaphore(_) => unreachable!(),
+            },
+            Primitive::SyncSemaphore(semaphore) => match caller {
+                Caller::SyncSemaphore(caller) => {
+                    let Ok(room) = Vec::with_capacity(alloc, waits as usize) else {
+                        return Err(Answer::Memory);
+                    };
+                    let made = caller.split(semaphore, room)?;
+                    Ok(Caller::SyncSemaphore(made))
+                }
+                Caller::Semaphore(_) | Caller::Pool(_) | Caller::Latch(_) | Caller::Barrier(_) =>
+                    unreachable!(),
             },
         }
     }
@@ -131,9 +173,15 @@ impl Primitive {
                         Ok(()) => Ok(()),
                         Err((given, refused)) => Err((Caller::Semaphore(given), refused)),
                     },
-                    Caller::Pool(_) | Caller::Latch(_) | Caller::Barrier(_) => unreachable!(),
+                    Caller::Pool(_)
+                    | Caller::Latch(_)
+                    | Caller::Barrier(_)
+                    | Caller::SyncSemaphore(_) => unreachable!(),
                 },
-                Caller::Pool(_) | Caller::Latch(_) | Caller::Barrier(_) => unreachable!(),
+                Caller::Pool(_)
+                | Caller::Latch(_)
+                | Caller::Barrier(_)
+                | Caller::SyncSemaphore(_) => unreachable!(),
             },
             Primitive::Pool(pool) => match caller {
                 Caller::Pool(caller) => match given {
@@ -141,9 +189,15 @@ impl Primitive {
                         Ok(()) => Ok(()),
                         Err((given, refused)) => Err((Caller::Pool(given), refused)),
                     },
-                    Caller::Semaphore(_) | Caller::Latch(_) | Caller::Barrier(_) => unreachable!(),
+                    Caller::Semaphore(_)
+                    | Caller::Latch(_)
+                    | Caller::Barrier(_)
+                    | Caller::SyncSemaphore(_) => unreachable!(),
                 },
-                Caller::Semaphore(_) | Caller::Latch(_) | Caller::Barrier(_) => unreachable!(),
+                Caller::Semaphore(_)
+                | Caller::Latch(_)
+                | Caller::Barrier(_)
+                | Caller::SyncSemaphore(_) => unreachable!(),
             },
             Primitive::Latch(latch) => match caller {
                 Caller::Latch(caller) => match given {
@@ -151,9 +205,15 @@ impl Primitive {
                         Ok(()) => Ok(()),
                         Err((given, refused)) => Err((Caller::Latch(given), refused)),
                     },
-                    Caller::Semaphore(_) | Caller::Pool(_) | Caller::Barrier(_) => unreachable!(),
+                    Caller::Semaphore(_)
+                    | Caller::Pool(_)
+                    | Caller::Barrier(_)
+                    | Caller::SyncSemaphore(_) => unreachable!(),
                 },
-                Caller::Semaphore(_) | Caller::Pool(_) | Caller::Barrier(_) => unreachable!(),
+                Caller::Semaphore(_)
+                | Caller::Pool(_)
+                | Caller::Barrier(_)
+                | Caller::SyncSemaphore(_) => unreachable!(),
             },
             Primitive::Barrier(barrier) => match caller {
                 Caller::Barrier(caller) => match given {
@@ -161,9 +221,29 @@ impl Primitive {
                         Ok(()) => Ok(()),
                         Err((given, refused)) => Err((Caller::Barrier(given), refused)),
                     },
-                    Caller::Semaphore(_) | Caller::Pool(_) | Caller::Latch(_) => unreachable!(),
+                    Caller::Semaphore(_)
+                    | Caller::Pool(_)
+                    | Caller::Latch(_)
+                    | Caller::SyncSemaphore(_) => unreachable!(),
                 },
-                Caller::Semaphore(_) | Caller::Pool(_) | Caller::Latch(_) => unreachable!(),
+                Caller::Semaphore(_)
+                | Caller::Pool(_)
+                | Caller::Latch(_)
+                | Caller::SyncSemaphore(_) => unreachable!(),
+            },
+            Primitive::SyncSemaphore(semaphore) => match caller {
+                Caller::SyncSemaphore(caller) => match given {
+                    Caller::SyncSemaphore(given) => match caller.meet(semaphore, given) {
+                        Ok(()) => Ok(()),
+                        Err((given, refused)) => Err((Caller::SyncSemaphore(given), refused)),
+                    },
+                    Caller::Semaphore(_)
+                    | Caller::Pool(_)
+                    | Caller::Latch(_)
+                    | Caller::Barrier(_) => unreachable!(),
+                },
+                Caller::Semaphore(_) | Caller::Pool(_) | Caller::Latch(_) | Caller::Barrier(_) =>
+                    unreachable!(),
             },
         }
     }

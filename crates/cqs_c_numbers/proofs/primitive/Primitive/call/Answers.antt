@@ -2,6 +2,7 @@ use Rattle.std.proofs.Common.{◌∙◌, ap, sym}
 use Rattle.cqs_c_numbers.specs.Callers.{pass_number}
 use Rattle.cqs_c_numbers.proofs.BarrierNumber.{barrier-number}
 use Rattle.cqs_c_numbers.proofs.CallNumbers.{latch-number, pool-number, semaphore-number}
+use Rattle.cqs_c_numbers.proofs.SyncNumber.{sync-number}
 use Rattle.cqs_c_numbers.proofs.primitive.Primitive.call.Goals as goal
 
 pub returns-in-Semaphore-caller-clause-number : goal.returns-in-Semaphore-caller-clause-number
@@ -20,3 +21,8 @@ returns-in-Latch-caller-clause-number c =
 pub returns-in-Barrier-caller-clause-number : goal.returns-in-Barrier-caller-clause-number
 returns-in-Barrier-caller-clause-number c =
     barrier-number _ _ _ _ _ c.call-in-Barrier-caller.ensures.answered ∙ sym (ap pass_number c.in-Barrier-caller.is)
+
+pub returns-in-SyncSemaphore-caller-clause-number : goal.returns-in-SyncSemaphore-caller-clause-number
+returns-in-SyncSemaphore-caller-clause-number c =
+    sync-number _ _ _ _ _ c.call-in-SyncSemaphore-caller.ensures.answered
+    ∙ sym (ap pass_number c.in-SyncSemaphore-caller.is)

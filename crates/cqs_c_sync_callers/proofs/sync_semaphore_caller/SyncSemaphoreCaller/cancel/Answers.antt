@@ -69,7 +69,8 @@ returns-in-Cancelled-clause-answered c =
       number_is = c.in-Some.ensures.found.number_is;
       given = c.cancel.result;
       told = search rules;
-      cancelled = subst (λ (d : SyncSemaphoreCaller). Cancels (place_of wait).index (pass_view d.pass) c.cancel.result w)
+      cancelled = subst (λ (d : SyncSemaphoreCaller).
+          Cancels (place_of wait).index (pass_view d.pass) c.cancel.result w)
           c.token.ensures.same c.cancel.ensures.cancelled;
     })
 
@@ -84,6 +85,7 @@ returns-in-TooLate-clause-answered c =
       number_is = c.in-Some.ensures.found.number_is;
       given = c.cancel.result;
       told = search rules;
-      cancelled = subst (λ (d : SyncSemaphoreCaller). Cancels (place_of wait).index (pass_view d.pass) c.cancel.result w)
+      cancelled = subst (λ (d : SyncSemaphoreCaller).
+          Cancels (place_of wait).index (pass_view d.pass) c.cancel.result w)
           c.token.ensures.same c.cancel.ensures.cancelled;
     })
